@@ -1,0 +1,1 @@
+// Exact fractions: definitions and laws alone, no code.
