@@ -5,11 +5,11 @@ use lib.Signed.{mag}
 use Rattle.figure.specs.declared.Figure.{Figure}
 use Rattle.figure.specs.Rounding.{IsFigure}
 
--- a figure of K digits whose power is at most n from zero
+-- a figure of K digits whose power lies from -(n + 1) to n
 pub record Sized (K n : ℕ) (f : Figure) : Type 0 where
   pub is-figure : IsFigure K f
   pub near : mag (f .power) ≤ n
 
--- what every operation takes: powers from -100,000 to 100,000
+-- what every operation takes: powers from -100,001 to 100,000
 abbrev pub Operand : ℕ → Figure → Type 0
 Operand K f = Sized K 100000 f

@@ -1,0 +1,5 @@
+pub mod Scale
+pub mod Digits
+pub mod Value
+pub mod Up
+pub mod Down
