@@ -1,0 +1,174 @@
+-- Laws of `Each`, `only`, `any` and `is-empty` over any list. Assumes nothing.
+use Prim.Native.Nat.{ℕ, zero, suc, _+_, _≤_, _<_}
+use mathlib.Core.Path.{_≡_, refl, sym, ap, _∙_, subst}
+use mathlib.Core.Bool.{Bool, true, false, not, _||_, true≢false, false≢true, or-true, or-assoc}
+use mathlib.Core.Logic.{_⊎_, inl, inr}
+use mathlib.Core.List.{List, [], _∷_, _++_, map, List·Memᴰ, List·Memᴰ·head, List·Memᴰ·tail, List·Memᴰ·not-nil, List·Memᴰ·cases-cons}
+use native.Mathlib.Nat.{le-of-suc-le-suc, not-suc-le-zero}
+use native.Mathlib.Omega.{arith}
+use lib.ListN.{length, getD}
+use lib.Dec.{ltb, eqb, eqb·suc-zero}
+use borrow.Author.Tests.{lt-ltb}
+use Rattle.model.specs.Model.{only, any, is-empty}
+use Rattle.model.proofs.Valid.{Each}
+
+-- neither of two tests holds
+pub neither : (a b : Bool) → (a || b) ≡ false → (a ≡ false) × (b ≡ false)
+neither true b e = absurd (true≢false e)
+neither false b e = (refl, e)
+
+module _ {A : Type 0} where
+  -- ---- a fact of every member
+
+  pub each-monotone : (P Q : A → Type 0) → ((x : A) → P x → Q x) → (xs : List A) → Each P xs → Each Q xs
+  unfolding Each
+  each-monotone P Q f [] h = tt
+  each-monotone P Q f (x ∷ xs) h = (f x (h .0), each-monotone P Q f xs (h .1))
+
+  pub each-append : (Q : A → Type 0) (xs ys : List A) → Each Q xs → Each Q ys → Each Q (xs ++ ys)
+  unfolding Each
+  each-append Q [] ys g h = h
+  each-append Q (x ∷ xs) ys g h = (g .0, each-append Q xs ys (g .1) h)
+
+  pub each-one : (Q : A → Type 0) (x : A) → Q x → Each Q (x ∷ [])
+  unfolding Each
+  each-one Q x h = (h, tt)
+
+  pub each-lookup : (Q : A → Type 0) (xs : List A) (i : ℕ) (d : A) → Each Q xs → i < length xs → Q (getD xs i d)
+  unfolding Each
+  each-lookup Q [] i d h k = absurd (not-suc-le-zero k)
+  each-lookup Q (x ∷ xs) zero d h k = h .0
+  each-lookup Q (x ∷ xs) (suc i) d h k = each-lookup Q xs i d (h .1) (le-of-suc-le-suc k)
+
+  pub each-member : (Q : A → Type 0) {a : A} {xs : List A} → List·Memᴰ a xs → Each Q xs → Q a
+  unfolding Each
+  each-member Q (List·Memᴰ·head e) h = subst Q (sym e) (h .0)
+  each-member Q (List·Memᴰ·tail k) h = each-member Q k (h .1)
+
+  pub each-of-members : (Q : A → Type 0) (xs : List A) → ((a : A) → List·Memᴰ a xs → Q a) → Each Q xs
+  unfolding Each
+  each-of-members Q [] h = tt
+  each-of-members Q (x ∷ xs) h = (h x (List·Memᴰ·head refl), each-of-members Q xs (λ a k. h a (List·Memᴰ·tail k)))
+
+  -- a member stands at some place
+  pub lookup-member : (xs : List A) (i : ℕ) (d : A) → i < length xs → List·Memᴰ (getD xs i d) xs
+  lookup-member [] i d h = absurd (not-suc-le-zero h)
+  lookup-member (x ∷ xs) zero d h = List·Memᴰ·head refl
+  lookup-member (x ∷ xs) (suc i) d h = List·Memᴰ·tail (lookup-member xs i d (le-of-suc-le-suc h))
+
+  -- ---- the members that pass a test
+
+  module _ (test : A → Bool) where
+    pub only-pass : (x : A) (xs : List A) → test x ≡ true → only test (x ∷ xs) ≡ x ∷ only test xs
+    unfolding only
+    only-pass x xs e = rw (e, only)
+
+    pub only-fail : (x : A) (xs : List A) → test x ≡ false → only test (x ∷ xs) ≡ only test xs
+    unfolding only
+    only-fail x xs e = rw (e, only)
+
+    -- what holds of a list and its members that pass, by adding members in front
+    pub only-induct : (P : List A → List A → Type 0) → P [] []
+        → ((x : A) (xs ys : List A) → test x ≡ true → P xs ys → P (x ∷ xs) (x ∷ ys))
+        → ((x : A) (xs ys : List A) → test x ≡ false → P xs ys → P (x ∷ xs) ys)
+        → (xs : List A) → P xs (only test xs)
+    unfolding only
+    only-induct P none pass fail [] = none
+    only-induct P none pass fail (x ∷ xs) = go (test x) refl (only-induct P none pass fail xs)
+      where
+        go : (b : Bool) → test x ≡ b → P xs (only test xs) → P (x ∷ xs) (only test (x ∷ xs))
+        go true e h = rw (only-pass x xs e) (pass x xs (only test xs) e h)
+        go false e h = rw (only-fail x xs e) (fail x xs (only test xs) e h)
+
+    pub only-append : (xs ys : List A) → only test (xs ++ ys) ≡ only test xs ++ only test ys
+    only-append xs ys = only-induct (λ l k. only test (l ++ ys) ≡ k ++ only test ys) refl
+        (λ x l k e h. only-pass x (l ++ ys) e ∙ ap (λ (r : List A). x ∷ r) h)
+        (λ x l k e h. only-fail x (l ++ ys) e ∙ h) xs
+
+    pub only-length : (xs : List A) → length (only test xs) ≤ length xs
+    only-length = only-induct (λ l k. length k ≤ length l) (omega arith) (λ x l k e h. omega arith) (λ x l k e h. omega arith)
+
+    pub each-only : (Q : A → Type 0) (xs : List A) → Each Q xs → Each Q (only test xs)
+    unfolding Each
+    each-only Q = only-induct (λ l k. Each Q l → Each Q k) (λ h. tt) (λ x l k e g h. (h .0, g (h .1))) (λ x l k e g h. g (h .1))
+
+    pub only-passes : (xs : List A) → Each (λ x. test x ≡ true) (only test xs)
+    unfolding Each
+    only-passes = only-induct (λ l k. Each (λ x. test x ≡ true) k) tt (λ x l k e h. (e, h)) (λ x l k e h. h)
+
+    pub only-from : {a : A} (xs : List A) → List·Memᴰ a (only test xs) → List·Memᴰ a xs
+    only-from {a} = only-induct (λ l k. List·Memᴰ a k → List·Memᴰ a l) (λ h. h)
+        (λ x l k e g h. under g (List·Memᴰ·cases-cons h))
+        (λ x l k e g h. List·Memᴰ·tail (g h))
+      where
+        under : {x : A} {l k : List A} → (List·Memᴰ a k → List·Memᴰ a l) → (a ≡ x) ⊎ List·Memᴰ a k → List·Memᴰ a (x ∷ l)
+        under g (inl e) = List·Memᴰ·head e
+        under g (inr h) = List·Memᴰ·tail (g h)
+
+    pub only-keeps : {a : A} (xs : List A) → test a ≡ true → List·Memᴰ a xs → List·Memᴰ a (only test xs)
+    only-keeps {a} xs p = only-induct (λ l k. List·Memᴰ a l → List·Memᴰ a k) (λ h. h)
+        (λ x l k e g h. under g (List·Memᴰ·cases-cons h))
+        (λ x l k e g h. past e g (List·Memᴰ·cases-cons h)) xs
+      where
+        under : {x : A} {l k : List A} → (List·Memᴰ a l → List·Memᴰ a k) → (a ≡ x) ⊎ List·Memᴰ a l → List·Memᴰ a (x ∷ k)
+        under g (inl e) = List·Memᴰ·head e
+        under g (inr h) = List·Memᴰ·tail (g h)
+
+        past : {x : A} {l k : List A} → test x ≡ false → (List·Memᴰ a l → List·Memᴰ a k) → (a ≡ x) ⊎ List·Memᴰ a l → List·Memᴰ a k
+        past f g (inl e) = absurd (true≢false (sym p ∙ ap test e ∙ f))
+        past f g (inr h) = g h
+
+  -- a list is what passes and what fails
+  pub only-split : (test : A → Bool) (xs : List A) → length (only test xs) + length (only (λ x. not (test x)) xs) ≡ length xs
+  only-split test = only-induct test (λ l k. length k + length (only (λ x. not (test x)) l) ≡ length l) (unfold only in refl)
+      (λ x l k e h. ap (λ (r : List A). suc (length k) + length r) (only-fail (λ x. not (test x)) x l (ap not e)) ∙ omega arith)
+      (λ x l k e h. ap (λ (r : List A). length k + length r) (only-pass (λ x. not (test x)) x l (ap not e)) ∙ omega arith)
+
+  -- ---- whether a member passes a test
+
+  module _ (test : A → Bool) where
+    pub any-append : (xs ys : List A) → any test (xs ++ ys) ≡ (any test xs || any test ys)
+    unfolding any
+    any-append [] ys = refl
+    any-append (x ∷ xs) ys = ap (λ (b : Bool). test x || b) (any-append xs ys) ∙ sym (or-assoc (test x) (any test xs) (any test ys))
+
+    pub any-none : (xs : List A) → any test xs ≡ false → Each (λ x. test x ≡ false) xs
+    unfolding any Each
+    any-none [] h = tt
+    any-none (x ∷ xs) h = let (p, q) = neither (test x) (any test xs) h in (p, any-none xs q)
+
+    pub none-any : (xs : List A) → Each (λ x. test x ≡ false) xs → any test xs ≡ false
+    unfolding any Each
+    none-any [] h = refl
+    none-any (x ∷ xs) h = rw (h .0, none-any xs (h .1))
+
+    pub any-some : (xs : List A) → any test xs ≡ true → (x : A) × List·Memᴰ x xs × (test x ≡ true)
+    unfolding any
+    any-some [] h = absurd (false≢true h)
+    any-some (x ∷ xs) h = go (test x) refl (any-some xs) h
+      where
+        go : (b : Bool) → test x ≡ b → (any test xs ≡ true → (y : A) × List·Memᴰ y xs × (test y ≡ true))
+            → (b || any test xs) ≡ true → (y : A) × List·Memᴰ y (x ∷ xs) × (test y ≡ true)
+        go true e below k = (x, List·Memᴰ·head refl, e)
+        go false e below k = let (y, member, passes) = below k in (y, List·Memᴰ·tail member, passes)
+
+    pub some-any : {a : A} {xs : List A} → List·Memᴰ a xs → test a ≡ true → any test xs ≡ true
+    unfolding any
+    some-any (List·Memᴰ·head e) p = rw (← e, p)
+    some-any (List·Memᴰ·tail k) p = rw (some-any k p, or-true)
+
+    -- as a number: some member passes exactly if those that pass are at least one
+    pub any-count : (xs : List A) → any test xs ≡ ltb 0 (length (only test xs))
+    unfolding any
+    any-count = only-induct test (λ l k. any test l ≡ ltb 0 (length k)) refl
+        (λ x l k e h. ap (λ (b : Bool). b || any test l) e ∙ sym (lt-ltb 0 (length (x ∷ k)) (omega arith)))
+        (λ x l k e h. ap (λ (b : Bool). b || any test l) e ∙ h)
+
+  pub is-empty-length : (xs : List A) → is-empty xs ≡ eqb (length xs) 0
+  is-empty-length [] = refl
+  is-empty-length (x ∷ xs) = sym (eqb·suc-zero (length xs))
+
+pub each-map : {A B : Type 0} (Q : B → Type 0) (f : A → B) (xs : List A) → Each (λ x. Q (f x)) xs → Each Q (map f xs)
+unfolding Each
+each-map Q f [] h = tt
+each-map Q f (x ∷ xs) h = (h .0, each-map Q f xs (h .1))
