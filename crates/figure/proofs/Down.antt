@@ -115,6 +115,11 @@ natural-down w x = go (x .num) refl
 pub down-unique : (w : ℕ) (x : Fraction) (f g : Figure) → IsDown (suc w) x f → IsDown (suc w) x g → f ≡ g
 down-unique w x f g a b = figure-same w f g (a .is-figure) (b .is-figure) (val-≼ f g (b .greatest f (a .is-figure) (a .not-above))) (val-≼ g f (a .greatest g (b .is-figure) (b .not-above)))
 
+-- what is below is rounded below
+pub natural-down-mono : (w : ℕ) {x y : Ratio} → x ≼ y → val (down (suc w) (signed x)) ≼ val (down (suc w) (signed y))
+natural-down-mono w {x} {y} h = let a = natural-down w x in
+    val-≼ _ _ (natural-down w y .greatest _ (a .is-figure) (above-value _ (≼-trans (above-val _ (a .not-above)) h)))
+
 pub down-pos : (w : ℕ) (x : Ratio) → 0 < x .num → 0 < (down (suc w) (signed x)) .digits
 down-pos w x h = le-trans (pow-pos w) (down-close w x h .big)
 

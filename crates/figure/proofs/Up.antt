@@ -132,6 +132,11 @@ natural-up w x = go (x .num) refl
 pub up-unique : (w : ℕ) (x : Fraction) (f g : Figure) → IsUp (suc w) x f → IsUp (suc w) x g → f ≡ g
 up-unique w x f g a b = figure-same w f g (a .is-figure) (b .is-figure) (val-≼ f g (a .least g (b .is-figure) (b .not-below))) (val-≼ g f (b .least f (a .is-figure) (a .not-below)))
 
+-- what is below is rounded below
+pub natural-up-mono : (w : ℕ) {x y : Ratio} → x ≼ y → val (up (suc w) (signed x)) ≼ val (up (suc w) (signed y))
+natural-up-mono w {x} {y} h = let b = natural-up w y in
+    val-≼ _ _ (natural-up w x .least _ (b .is-figure) (below-value _ (≼-trans h (below-val _ (b .not-below)))))
+
 pub up-pos : (w : ℕ) (x : Ratio) → 0 < x .num → 0 < (up (suc w) (signed x)) .digits
 up-pos w x h = le-trans (pow-pos w) (up-tight w x h .big)
 
