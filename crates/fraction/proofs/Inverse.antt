@@ -1,70 +1,136 @@
--- One over a fraction (0 over 0 is 0), differences, and powers of the growth as a sum.
-use mathlib.Core.Path.{_≡_, refl, sym, _∙_, ap}
-use mathlib.Core.List.{List, [], _∷_}
-use mathlib.Core.Logic.{_⊎_, inl, inr, ⊎-elim}
-use Prim.Native.Nat.{ℕ, zero, suc, _+_, _*_, _-_, _≤_, _<_}
-use native.Mathlib.Nat.{zero-lt-suc, mul-pos, lt-irrefl, mul-le-mul-right, mul-le-mul-left}
-use native.Mathlib.Omega.{arith, P, patom, plit}
-use Rattle.fraction.proofs.Ratio.{Ratio, _≼_, _≈_, ofℕ, _⊕_, _⊗_, _⊖_, ≼-refl, ≼-trans, ≈-refl, ≈-sym, ≈-trans, ≈-le, ≈-ge, ⊕-mono, ⊗-mono, ⊗-cong, ⊗-comm, ⊗-assoc, ⊗-one, ⊗-cancel, ofℕ-≼, ofℕ-⊗, ofℕ-⊕, ⊖-le, ≼-or, zero-≼}
-use Rattle.fraction.proofs.Certificate.{_+'_, _*'_, prove, same-value, hyp}
-use Rattle.fraction.proofs.Within.{Within, grow, grow-bound}
+-- Quotients of natural fractions: `m over n`, one over a fraction, and how orders move across them. Dividing by 0 gives 0, as in
+-- `specs/Fraction`; a law asks for a positive divisor only where it would fail without one.
+use mathlib.Core.Path.{_≡_, refl, ap}
+use mathlib.Core.List.{[], _∷_}
+use mathlib.Core.Logic.{⊎-elim}
+use Prim.Native.Nat.{ℕ, zero, suc, _<_}
+use native.Mathlib.Nat.{zero-lt-suc, lt-irrefl}
+use native.Mathlib.Omega.{arith, patom, plit}
+use Rattle.fraction.proofs.Ratio.{Ratio, _≼_, _≈_, ofℕ, _⊗_, ≼-refl, ≼-trans, ≼-antisym, ≈-refl, ≈-sym, ≈-trans, ≈-le, ≈-ge, ⊗-mono, ⊗-cong, ⊗-comm, ⊗-one, ⊗-zero, ⊗-cancel, ⊗-pos, num-zero, zero-num, zero-or-pos, pos-≼}
+use Rattle.fraction.proofs.Certificate.{_*'_, prove, same-value, hyp}
 
+infix 75 _over_
+-- the fraction m / n, or 0 where n is 0
+unfoldable pub _over_ : ℕ → ℕ → Ratio
+m over zero = ofℕ 0
+m over suc n = record { num = m; den = suc n; den-pos = zero-lt-suc n }
+
+-- one over a fraction, or 0 where it is 0
 unfoldable pub inv : Ratio → Ratio
-inv y = elim (y .num) [ zero ↦ record { num = 0; den = 1; den-pos = zero-lt-suc 0 } | suc n ↦ record { num = y .den; den = suc n; den-pos = zero-lt-suc n } ]
+inv y = y .den over y .num
+
+-- ---- what they are
+
+pub over-is : (m n : ℕ) → 0 < n → ofℕ n ⊗ (m over n) ≈ ofℕ m
+unfolding _over_ ofℕ _⊗_
+over-is m zero h = absurd (lt-irrefl 0 h)
+over-is m (suc n) h = record { eq = omega arith }
+
+pub over-pos : (m n : ℕ) → 0 < m → 0 < n → 0 < (m over n) .num
+unfolding _over_
+over-pos m zero h k = absurd (lt-irrefl 0 k)
+over-pos m (suc n) h k = h
 
 pub inv-is : (y : Ratio) → 0 < y .num → y ⊗ inv y ≈ ofℕ 1
-unfolding inv ofℕ _⊗_
+unfolding inv _over_ ofℕ _⊗_
 inv-is y h = go (y .num) refl h
   where
-    go : (k : ℕ) → y .num ≡ k → 0 < k → y ⊗ (elim k as (λ _. Ratio) [ zero ↦ record { num = 0; den = 1; den-pos = zero-lt-suc 0 } | suc n ↦ record { num = y .den; den = suc n; den-pos = zero-lt-suc n } ]) ≈ ofℕ 1
+    go : (k : ℕ) → y .num ≡ k → 0 < k → y ⊗ (y .den over k) ≈ ofℕ 1
     go zero e p = absurd (lt-irrefl 0 p)
     go (suc k) e p = record { eq = rw e (omega arith) }
 
--- the quotient rule: a divisor from below
-pub within-inv : {G ŷ y : Ratio} → 0 < ŷ .num → 0 < y .num → Within G y ŷ → Within G (inv ŷ) (inv y)
-within-inv {G} {ŷ} {y} h k p = record {
-  low = ⊗-cancel y k (prove (ŷ ∷ y ∷ inv ŷ ∷ inv y ∷ []) (hyp (plit 1) (patom 1 *' patom 3) (plit 1) ∷ hyp (plit 1) (plit 1) (patom 0 *' patom 2) ∷ hyp (patom 2) (patom 0) (patom 1) ∷ []) (patom 1 *' patom 3) (patom 1 *' patom 2) tt (≈-le (inv-is y k)) (≈-ge (inv-is ŷ h)) (p .low));
-  high = ⊗-cancel y k (prove (ŷ ∷ y ∷ inv ŷ ∷ inv y ∷ G ∷ []) (hyp (patom 2) (patom 1) (patom 0 *' patom 4) ∷ hyp (patom 4) (patom 0 *' patom 2) (plit 1) ∷ hyp (patom 4) (plit 1) (patom 1 *' patom 3) ∷ []) (patom 1 *' patom 2) (patom 1 *' (patom 3 *' patom 4)) tt (p .high) (≈-le (inv-is ŷ h)) (≈-ge (inv-is y k)));
-}
+pub inv-none : (y : Ratio) → y .num ≡ 0 → inv y ≡ ofℕ 0
+unfolding inv _over_
+inv-none y e = ap (λ n. y .den over n) e
 
--- ---- differences
-pub ⊖-adj : (x y z : Ratio) → x ≼ z ⊕ y → x ⊖ y ≼ z
-unfolding _⊕_ _⊖_
-⊖-adj x y z h = record { le = go (x .num) (x .den) (y .num) (y .den) (z .num) (z .den) (h .le) (y .den-pos) }
+pub inv-pos : (y : Ratio) → 0 < y .num → 0 < (inv y) .num
+unfolding inv
+inv-pos y h = over-pos (y .den) (y .num) (y .den-pos) h
+
+-- one over a whole number
+pub inv-ofℕ : (n : ℕ) → inv (ofℕ n) ≡ 1 over n
+unfolding inv ofℕ
+inv-ofℕ n = refl
+
+-- ---- one over a fraction is the only one that gives 1 with it; hence the laws of quotients
+
+pub inv-unique : (y z : Ratio) → 0 < y .num → y ⊗ z ≈ ofℕ 1 → z ≈ inv y
+inv-unique y z h e = ≼-antisym (⊗-cancel y h (≈-le same)) (⊗-cancel y h (≈-ge same))
   where
-    go : (a b c d e f : ℕ) → a * (f * d) ≤ (e * d + c * f) * b → 0 < d → (a * d - c * b) * f ≤ e * (b * d)
-    go a b c d e f p q = ⊎-elim small large (le-or (a * d) (c * b))
+    same : y ⊗ z ≈ y ⊗ inv y
+    same = ≈-trans e (≈-sym (inv-is y h))
+
+pub inv-cong : {x y : Ratio} → x ≈ y → inv x ≈ inv y
+inv-cong {x} {y} e = ⊎-elim none some (zero-or-pos x)
+  where
+    none : x .num ≡ 0 → inv x ≈ inv y
+    none h = rw (inv-none x h, inv-none y (zero-num (≈-trans (≈-sym e) (num-zero x h)))) (≈-refl _)
+
+    some : 0 < x .num → inv x ≈ inv y
+    some h = inv-unique y (inv x) (pos-≼ (≈-le e) h) (≈-trans (⊗-cong (≈-sym e) (≈-refl _)) (inv-is x h))
+
+pub inv-⊗ : (x y : Ratio) → inv (x ⊗ y) ≈ inv x ⊗ inv y
+inv-⊗ x y = ⊎-elim none-x (λ h. ⊎-elim none-y (some h) (zero-or-pos y)) (zero-or-pos x)
+  where
+    none-x : x .num ≡ 0 → inv (x ⊗ y) ≈ inv x ⊗ inv y
+    none-x h = rw (inv-none x h, inv-none (x ⊗ y) (zero-num none)) (≈-sym (⊗-zero _))
       where
-        le-or : (m n : ℕ) → (m ≤ n) ⊎ (n ≤ m)
-        le-or zero n = inl (omega arith)
-        le-or (suc m) zero = inr (omega arith)
-        le-or (suc m) (suc n) = ⊎-elim (λ u. inl (omega arith)) (λ u. inr (omega arith)) (le-or m n)
+        none : x ⊗ y ≈ ofℕ 0
+        none = ≈-trans (⊗-cong (num-zero x h) (≈-refl y)) (⊗-zero y)
 
-        small : a * d ≤ c * b → (a * d - c * b) * f ≤ e * (b * d)
-        small u = let z : a * d - c * b ≡ 0 = omega arith in rw z (omega arith)
+    none-y : y .num ≡ 0 → inv (x ⊗ y) ≈ inv x ⊗ inv y
+    none-y h = rw (inv-none y h, inv-none (x ⊗ y) (zero-num none)) (≈-sym (≈-trans (⊗-comm _ _) (⊗-zero _)))
+      where
+        none : x ⊗ y ≈ ofℕ 0
+        none = ≈-trans (⊗-comm x y) (≈-trans (⊗-cong (num-zero y h) (≈-refl x)) (⊗-zero x))
 
-        large : c * b ≤ a * d → (a * d - c * b) * f ≤ e * (b * d)
-        large u = let s : a * d - c * b + c * b ≡ a * d = omega arith in omega (arith, ap (λ t. t * f) s)
+    some : 0 < x .num → 0 < y .num → inv (x ⊗ y) ≈ inv x ⊗ inv y
+    some h k = ≈-sym (inv-unique (x ⊗ y) (inv x ⊗ inv y) (⊗-pos x y h k)
+        (≈-trans (same-value (x ∷ y ∷ inv x ∷ inv y ∷ []) (patom 0 *' patom 1 *' (patom 2 *' patom 3)) (patom 0 *' patom 2 *' (patom 1 *' patom 3)) tt tt)
+        (≈-trans (⊗-cong (inv-is x h) (inv-is y k)) (⊗-one (ofℕ 1)))))
 
-pub ⊖-mono : {x x′ y y′ : Ratio} → x ≼ x′ → y′ ≼ y → x ⊖ y ≼ x′ ⊖ y′
-⊖-mono {x} {x′} {y} {y′} p q = ⊖-adj x y (x′ ⊖ y′) (≼-trans p (≼-trans (⊖-le x′ y′) (⊕-mono (≼-refl _) q)))
-
-pub ⊖-cap : (x y : Ratio) → x ⊖ y ≼ x
-⊖-cap x y = ⊖-adj x y x (prove (x ∷ y ∷ []) [] (patom 0) (patom 0 +' patom 1) tt)
-
-pub ⊖-none : (x y z : Ratio) → x ≼ y → x ⊖ y ≼ z
-⊖-none x y z h = ⊖-adj x y z (≼-trans h (prove (z ∷ y ∷ []) [] (patom 1) (patom 0 +' patom 1) tt))
-
--- ---- n roundings are at most n + 1 parts of 10^8, for n up to 9,998
-unfoldable pub ε : Ratio
-ε = record { num = 1; den = 100000000; den-pos = zero-lt-suc 99999999 }
-
-pub ε-is : ofℕ 100000000 ⊗ ε ≈ ofℕ 1
-unfolding ofℕ _⊗_ ε
-ε-is = record { eq = refl }
-
-pub grow-linear : (n : ℕ) → n ≤ 9998 → grow 99999998 n ≼ ofℕ 1 ⊕ ofℕ (n + 1) ⊗ ε
-grow-linear n h = ⊗-cancel (ofℕ (99999999 - n)) (unfold ofℕ in omega arith) (≼-trans (grow-bound 99999998 n (99999999 - n) (omega arith)) (last n h))
+pub inv-inv : (x : Ratio) → inv (inv x) ≈ x
+inv-inv x = ⊎-elim none some (zero-or-pos x)
   where
-    last : (n : ℕ) → n ≤ 9998 → ofℕ 99999999 ≼ ofℕ (99999999 - n) ⊗ (ofℕ 1 ⊕ ofℕ (n + 1) ⊗ ε)
-    last n h = unfold ofℕ _⊗_ _⊕_ ε in record { le = let s : (99999999 - n) + n ≡ 99999999 = omega arith in omega (arith, ap (λ t. t * n) s, mul-le-mul-right n h) }
+    none : x .num ≡ 0 → inv (inv x) ≈ x
+    none h = rw (inv-none x h, inv-none (ofℕ 0) (unfold ofℕ in refl)) (≈-sym (num-zero x h))
+
+    some : 0 < x .num → inv (inv x) ≈ x
+    some h = ≈-sym (inv-unique (inv x) x (inv-pos x h) (≈-trans (⊗-comm _ _) (inv-is x h)))
+
+-- m / n is m times one over n
+pub over-≈ : (m n : ℕ) → m over n ≈ ofℕ m ⊗ inv (ofℕ n)
+unfolding _over_ ofℕ _⊗_ inv
+over-≈ m zero = record { eq = omega arith }
+over-≈ m (suc n) = record { eq = omega arith }
+
+-- ---- orders
+
+-- the larger divisor gives the smaller quotient
+pub inv-≼ : {x y : Ratio} → x ≼ y → 0 < x .num → inv y ≼ inv x
+inv-≼ {x} {y} p h = ⊗-cancel x h (prove (x ∷ y ∷ inv x ∷ inv y ∷ [])
+    (hyp (patom 3) (patom 0) (patom 1) ∷ hyp (plit 1) (patom 1 *' patom 3) (plit 1) ∷ hyp (plit 1) (plit 1) (patom 0 *' patom 2) ∷ [])
+    (patom 0 *' patom 3) (patom 0 *' patom 2) tt p (≈-le (inv-is y (pos-≼ p h))) (≈-ge (inv-is x h)))
+
+-- a quotient times its divisor
+pub quotient-⊗ : (x y : Ratio) → 0 < y .num → (x ⊗ inv y) ⊗ y ≈ x
+quotient-⊗ x y h = ≈-trans reorder (≈-trans (⊗-cong (inv-is y h) (≈-refl x)) (⊗-one x))
+  where
+    reorder : (x ⊗ inv y) ⊗ y ≈ (y ⊗ inv y) ⊗ x
+    reorder = same-value (x ∷ y ∷ inv y ∷ []) (patom 0 *' patom 2 *' patom 1) (patom 1 *' patom 2 *' patom 0) tt tt
+
+-- a divisor moves to the other side of an order, as a factor, and back
+module _ (x y z : Ratio) (h : 0 < y .num) where
+  pub divide-≼ : x ≼ z ⊗ y → x ⊗ inv y ≼ z
+  divide-≼ p = prove (x ∷ y ∷ inv y ∷ z ∷ []) (hyp (patom 2) (patom 0) (patom 3 *' patom 1) ∷ hyp (patom 3) (patom 1 *' patom 2) (plit 1) ∷ [])
+      (patom 0 *' patom 2) (patom 3) tt p (≈-le (inv-is y h))
+
+  pub ≼-divide : z ⊗ y ≼ x → z ≼ x ⊗ inv y
+  ≼-divide p = prove (x ∷ y ∷ inv y ∷ z ∷ []) (hyp (patom 2) (patom 3 *' patom 1) (patom 0) ∷ hyp (patom 3) (plit 1) (patom 1 *' patom 2) ∷ [])
+      (patom 3) (patom 0 *' patom 2) tt p (≈-ge (inv-is y h))
+
+  pub undivide-≼ : x ⊗ inv y ≼ z → x ≼ z ⊗ y
+  undivide-≼ p = ≼-trans (≈-ge (quotient-⊗ x y h)) (⊗-mono p (≼-refl y))
+
+  pub ≼-undivide : z ≼ x ⊗ inv y → z ⊗ y ≼ x
+  ≼-undivide p = ≼-trans (⊗-mono p (≼-refl y)) (≈-le (quotient-⊗ x y h))

@@ -1,7 +1,9 @@
+pub mod Integers
 pub mod Ratio
 pub mod Certificate
+pub mod Inverse
+pub mod Powers
 pub mod PowersOfTen
 pub mod Multiples
 pub mod Within
-pub mod Inverse
 pub mod Signed

@@ -1,16 +1,15 @@
--- Powers of ten with an integer exponent, as fractions.
-use mathlib.Core.Path.{_≡_, refl, sym, _∙_, ap, subst}
-use mathlib.Core.List.{List, [], _∷_}
-use mathlib.Core.Bool.{true, false}
-use mathlib.Core.Logic.{_⊎_, inl, inr, ⊎-elim}
-use Prim.Native.Nat.{ℕ, zero, suc, _+_, _*_, _-_, _^_, _≤_, _<_}
-use native.Mathlib.Nat.{zero-lt-suc, one-le-pow, pow-succ', le-trans, mul-pos}
-use native.Mathlib.Omega.{arith, P, patom, plit}
-use lib.Dec.{leb·suc-zero}
-use lib.IntN.{ℤ, pos, negsuc, sucℤ, predℤ, negℤ, _+ℤ_, _-ℤ_, +ℤ-idr, +ℤ-idl, +ℤ-sucℤ, +ℤ-predℤ, +ℤ-comm, -ℤ-+ℤ-cancel, subℕ}
-use Rattle.fraction.proofs.Ratio.{Ratio, _≼_, _≈_, ofℕ, _⊕_, _⊗_, ≼-refl, ≼-trans, ≈-refl, ≈-sym, ≈-trans, ≈-le, ≈-ge, ⊗-mono, ⊗-cong, ⊗-comm, ⊗-assoc, ⊗-one, ofℕ-≼, ofℕ-⊗}
-use Rattle.fraction.proofs.Certificate.{_+'_, _*'_, prove, same-value, hyp}
+-- Powers of ten with a signed exponent, as natural fractions: the product's law, and the order.
+use mathlib.Core.Path.{_≡_, refl, sym, _∙_, ap}
+use mathlib.Core.List.{[], _∷_}
+use Prim.Native.Nat.{ℕ, zero, suc, _^_, _<_}
+use native.Mathlib.Nat.{zero-lt-suc, one-le-pow, pow-succ'}
+use native.Mathlib.Omega.{arith, patom}
+use lib.IntN.{ℤ, pos, negsuc, sucℤ, predℤ, _+ℤ_, +ℤ-idr, +ℤ-sucℤ, +ℤ-predℤ, -ℤ-+ℤ-cancel, subℕ}
+use Rattle.fraction.proofs.Integers.{minus-is}
+use Rattle.fraction.proofs.Ratio.{Ratio, _≼_, _≈_, ofℕ, _⊗_, ≼-refl, ≼-trans, ≈-refl, ≈-sym, ≈-trans, ≈-le, ≈-ge, ⊗-mono, ⊗-cong, ⊗-comm, ⊗-one, ofℕ-≼}
+use Rattle.fraction.proofs.Certificate.{_*'_, same-value}
 
+-- ten to the power p
 unfoldable pub ten-to : ℤ → Ratio
 ten-to (pos k) = record { num = 10 ^ k; den = 1; den-pos = zero-lt-suc 0 }
 ten-to (negsuc k) = record { num = 1; den = 10 ^ suc k; den-pos = one-le-pow (suc k) 10 (zero-lt-suc 9) }
@@ -20,9 +19,15 @@ unfolding ten-to
 ten-pos (pos k) = one-le-pow k 10 (zero-lt-suc 9)
 ten-pos (negsuc k) = zero-lt-suc 0
 
+pub ten-nat : (k : ℕ) → ten-to (pos k) ≈ ofℕ (10 ^ k)
+unfolding ten-to ofℕ
+ten-nat k = record { eq = refl }
+
 pub ten-zero : ten-to (pos 0) ≈ ofℕ 1
 unfolding ten-to ofℕ
 ten-zero = record { eq = refl }
+
+-- ---- one power more, and one less
 
 pub ten-suc : (p : ℤ) → ten-to (sucℤ p) ≈ ofℕ 10 ⊗ ten-to p
 unfolding ten-to ofℕ _⊗_
@@ -39,8 +44,13 @@ ten-pred (pos zero) = record { eq = refl }
 ten-pred (pos (suc k)) = record { eq = omega (arith, pow-succ' 10 k) }
 ten-pred (negsuc k) = record { eq = omega (arith, pow-succ' 10 (suc k)) }
 
+-- ---- the power of a sum, by induction on the second exponent
+
 step : {a b z : Ratio} (t x y : Ratio) → a ≈ t ⊗ b → b ≈ x ⊗ y → z ≈ t ⊗ y → a ≈ x ⊗ z
-step t x y p q r = ≈-trans p (≈-trans (⊗-cong (≈-refl t) q) (≈-trans (same-value (t ∷ x ∷ y ∷ []) (patom 0 *' (patom 1 *' patom 2)) (patom 1 *' (patom 0 *' patom 2)) tt tt) (⊗-cong (≈-refl x) (≈-sym r))))
+step t x y p q r = ≈-trans p (≈-trans (⊗-cong (≈-refl t) q) (≈-trans swap (⊗-cong (≈-refl x) (≈-sym r))))
+  where
+    swap : t ⊗ (x ⊗ y) ≈ x ⊗ (t ⊗ y)
+    swap = same-value (t ∷ x ∷ y ∷ []) (patom 0 *' (patom 1 *' patom 2)) (patom 1 *' (patom 0 *' patom 2)) tt tt
 
 ten-+0 : (p : ℤ) → ten-to (p +ℤ pos 0) ≈ ten-to p ⊗ ten-to (pos 0)
 ten-+0 p = rw +ℤ-idr (≈-trans (≈-sym (⊗-one (ten-to p))) (≈-trans (⊗-comm _ _) (⊗-cong (≈-refl _) (≈-sym ten-zero))))
@@ -51,19 +61,16 @@ ten-+ p (pos (suc n)) = rw (+ℤ-sucℤ p (pos n)) (step _ _ _ (ten-suc (p +ℤ 
 ten-+ p (negsuc zero) = rw (+ℤ-predℤ p (pos 0)) (step _ _ _ (ten-pred (p +ℤ pos 0)) (ten-+0 p) (ten-pred (pos 0)))
 ten-+ p (negsuc (suc n)) = rw (+ℤ-predℤ p (negsuc n)) (step _ _ _ (ten-pred (p +ℤ negsuc n)) (ten-+ p (negsuc n)) (ten-pred (negsuc n)))
 
-pub ten-nat : (k : ℕ) → ten-to (pos k) ≈ ofℕ (10 ^ k)
-unfolding ten-to ofℕ
-ten-nat k = record { eq = refl }
+-- ---- hence: the order of powers, and differences of exponents
 
 pub ten-≼ : (p : ℤ) (k : ℕ) → ten-to p ≼ ten-to (p +ℤ pos k)
-ten-≼ p k = ≼-trans (≈-ge (⊗-one (ten-to p))) (≼-trans (⊗-mono (ofℕ-≼ (one-le-pow k 10 (zero-lt-suc 9))) (≼-refl (ten-to p))) (≼-trans (≈-le (⊗-comm _ _)) (≼-trans (⊗-mono (≼-refl _) (≈-ge (ten-nat k))) (≈-ge (ten-+ p (pos k))))))
+ten-≼ p k = ≼-trans (≈-ge (⊗-one (ten-to p))) (≼-trans (⊗-mono one-≼ (≼-refl (ten-to p))) (≈-le (≈-trans (⊗-comm _ _) (≈-sym (ten-+ p (pos k))))))
+  where
+    one-≼ : ofℕ 1 ≼ ten-to (pos k)
+    one-≼ = ≼-trans (ofℕ-≼ (one-le-pow k 10 (zero-lt-suc 9))) (≈-ge (ten-nat k))
 
 back : (a b : ℕ) → subℕ a b +ℤ pos b ≡ pos a
-back a b = ap (λ t. t +ℤ pos b) (sym (neg-sub a b)) ∙ -ℤ-+ℤ-cancel (pos a) (pos b)
-  where
-    neg-sub : (a b : ℕ) → pos a -ℤ pos b ≡ subℕ a b
-    neg-sub a zero = rw leb·suc-zero (ap pos (omega arith))
-    neg-sub a (suc b) = refl
+back a b = ap (λ t. t +ℤ pos b) (sym (minus-is a b)) ∙ -ℤ-+ℤ-cancel (pos a) (pos b)
 
 -- a − b for naturals: 10^(a − b) times 10^b is 10^a
 pub ten-sub : (a b : ℕ) → ten-to (subℕ a b) ⊗ ofℕ (10 ^ b) ≈ ofℕ (10 ^ a)

@@ -1,16 +1,18 @@
 -- The bridge between the fractions of the statements, whose numerators are signed, and those of the proofs, whose numerators are natural.
--- On what comes from natural numerators the operations of both agree by computation. Assumes nothing.
+-- `signed` takes the second to the first, and every operation agrees on what comes from there; `nonnegative` goes back. Assumes nothing.
 use mathlib.Core.Path.{_≡_, refl, sym, _∙_, ap}
-use mathlib.Core.Bool.{Bool, true, false, not, cond}
-use Prim.Native.Nat.{ℕ, zero, suc, _+_, _*_, _-_, _^_, _≤_, _<_}
-use native.Mathlib.Nat.{mul-pos, mul-le-mul-right, le-trans}
+use Prim.Native.Nat.{ℕ, zero, suc, _*_, _<_}
+use native.Mathlib.Nat.{mul-pos}
 use native.Mathlib.Omega.{arith}
-use lib.Dec.{T, ltb, ltb→lt, nltb→le, leb, leb→le, le→leb, leb·suc-zero}
-use lib.IntN.{ℤ, pos, negsuc, negℤ, _+ℤ_, _-ℤ_, _*ℤ_, subℕ}
-use lib.Signed.{_≤ℤ_, leZ}
+use lib.Dec.{ltb→lt, lt→ltb, leb, leb→le, le→leb}
+use lib.IntN.{ℤ, pos, negsuc}
+use lib.Signed.{_≤ℤ_, _<ℤ_}
 use Rattle.fraction.specs.Fraction.{Fraction, _≤ᶠ_, _≈ᶠ_, at-most, whole, ratio, inverse, ten, _+ᶠ_, _-ᶠ_, _*ᶠ_, _/ᶠ_, _^ᶠ_}
+pub use Rattle.fraction.proofs.Integers.{natural, minus-is}
+use Rattle.fraction.proofs.Integers.{natural-sub, Is, is-self, is-pos, is-minus, is-times, is-≤, ≤-is, not-negative, positive, <-≤}
 use Rattle.fraction.proofs.Ratio.{Ratio, _≼_, _≈_, ofℕ, _⊕_, _⊗_, _⊖_}
-use Rattle.fraction.proofs.Inverse.{inv}
+use Rattle.fraction.proofs.Inverse.{inv, _over_}
+use Rattle.fraction.proofs.Powers.{pow}
 use Rattle.fraction.proofs.PowersOfTen.{ten-to}
 
 unfoldable pub signed : Ratio → Fraction
@@ -35,15 +37,26 @@ unfolding signed ten-to ten
 signed-ten (pos k) = refl
 signed-ten (negsuc k) = refl
 
-pub signed-inv : (y : Ratio) → signed (inv y) ≡ inverse (signed y)
-unfolding signed inv inverse whole ratio
-signed-inv y = go (y .num)
-  where
-    go : (n : ℕ) → signed (elim n as (λ _. Ratio) [ zero ↦ record { num = 0; den = 1; den-pos = native.Mathlib.Nat.zero-lt-suc 0 } | suc k ↦ record { num = y .den; den = suc k; den-pos = native.Mathlib.Nat.zero-lt-suc k } ]) ≡ ratio (pos (y .den)) n
-    go zero = refl
-    go (suc n) = refl
+pub signed-ratio : (m n : ℕ) → signed (m over n) ≡ ratio (pos m) n
+unfolding signed _over_ ofℕ whole ratio
+signed-ratio m zero = refl
+signed-ratio m (suc n) = refl
 
--- ---- the order
+pub signed-inv : (y : Ratio) → signed (inv y) ≡ inverse (signed y)
+unfolding signed inv inverse
+signed-inv y = signed-ratio (y .den) (y .num)
+
+-- the quotient is the product with one over the divisor
+pub signed-quotient : (x y : Ratio) → signed (x ⊗ inv y) ≡ signed x /ᶠ signed y
+unfolding _/ᶠ_
+signed-quotient x y = signed-⊗ x (inv y) ∙ ap (λ z. signed x *ᶠ z) (signed-inv y)
+
+pub signed-pow : (x : Ratio) (k : ℕ) → signed (pow x k) ≡ signed x ^ᶠ k
+unfolding pow _^ᶠ_
+signed-pow x zero = signed-whole 1
+signed-pow x (suc k) = signed-⊗ x (pow x k) ∙ ap (λ z. signed x *ᶠ z) (signed-pow x k)
+
+-- ---- the order, equality as fractions, and being positive agree
 
 pub signed-≼ : {x y : Ratio} → x ≼ y → signed x ≤ᶠ signed y
 unfolding signed
@@ -53,49 +66,81 @@ pub ≼-signed : {x y : Ratio} → signed x ≤ᶠ signed y → x ≼ y
 unfolding signed
 ≼-signed h = record { le = leb→le _ _ (h .le .le) }
 
+pub signed-≈ : {x y : Ratio} → x ≈ y → signed x ≈ᶠ signed y
+unfolding signed
+signed-≈ h = record { eq = ap pos (h .eq) }
+
+pub ≈-signed : {x y : Ratio} → signed x ≈ᶠ signed y → x ≈ y
+unfolding signed
+≈-signed h = record { eq = ap natural (h .eq) }
+
 pub at-most-signed : (x y : Ratio) → at-most (signed x) (signed y) ≡ leb (x .num * y .den) (y .num * x .den)
 unfolding signed at-most
 at-most-signed x y = refl
 
--- ---- the difference
+pub signed-positive : (x : Ratio) → 0 < x .num → pos 0 <ℤ (signed x) .num
+unfolding signed
+signed-positive x h = record { lt = lt→ltb _ _ h }
 
--- 0 for what is negative
-abbrev pub natural : ℤ → ℕ
-natural (pos n) = n
-natural (negsuc n) = 0
+pub positive-signed : (x : Ratio) → pos 0 <ℤ (signed x) .num → 0 < x .num
+unfolding signed
+positive-signed x h = ltb→lt _ _ (h .lt)
 
--- a fraction, or 0 where it is negative
+-- ---- back: a fraction, or 0 where it is negative
+
 unfoldable pub nonnegative : Fraction → Ratio
 nonnegative x = record { num = natural (x .num); den = x .den; den-pos = x .den-pos }
 
-pub minus-is : (a b : ℕ) → pos a -ℤ pos b ≡ subℕ a b
-minus-is a zero = rw leb·suc-zero (ap pos (omega arith))
-minus-is a (suc b) = refl
+pub nonnegative-signed : (x : Ratio) → nonnegative (signed x) ≡ x
+unfolding nonnegative signed
+nonnegative-signed x = refl
 
-natural-sub : (a b : ℕ) → natural (subℕ a b) ≡ a - b
-natural-sub a b = go (ltb a b) (ltb→lt a b)
-  where
-    go : (t : Bool) → (T t → a < b) → natural (cond t (negsuc (b - suc a)) (pos (a - b))) ≡ a - b
-    go true h = omega (arith, h tt)
-    go false h = refl
+-- where it is not negative nothing is lost
+pub signed-natural : (x : Fraction) → pos 0 ≤ℤ x .num → signed (nonnegative x) ≡ x
+unfolding nonnegative signed
+signed-natural x h = λ i. record { num = sym (not-negative (x .num) h) i; den = x .den; den-pos = x .den-pos }
+
+pub signed-positive-natural : (x : Fraction) → pos 0 <ℤ x .num → signed (nonnegative x) ≡ x
+signed-positive-natural x h = signed-natural x (<-≤ (x .num) h)
+
+pub signed-nonnegative : {x : Fraction} → whole 0 ≤ᶠ x → signed (nonnegative x) ≡ x
+unfolding whole
+signed-nonnegative {x} h = signed-natural x (is-≤ (is-pos 0) (is-self (x .num))
+    (omega (arith, ≤-is (is-times (is-pos 0) (is-pos (x .den))) (is-times (is-self (x .num)) (is-pos 1)) (h .le))))
+
+pub nonnegative-positive : (x : Fraction) → pos 0 <ℤ x .num → 0 < (nonnegative x) .num
+unfolding nonnegative
+nonnegative-positive x h = positive (x .num) h
+
+-- ---- differences
 
 -- a difference, set to 0 where it is negative, is the difference of natural numerators
 pub nonnegative-minus : (x y : Ratio) → nonnegative (signed x -ᶠ signed y) ≡ x ⊖ y
 unfolding nonnegative signed _-ᶠ_ _⊖_
-nonnegative-minus x y = λ i. record { num = (ap natural (minus-is (x .num * y .den) (y .num * x .den)) ∙ natural-sub (x .num * y .den) (y .num * x .den)) i; den = x .den * y .den; den-pos = mul-pos (x .den-pos) (y .den-pos) }
+nonnegative-minus x y = λ i. record {
+  num = (ap natural (minus-is (x .num * y .den) (y .num * x .den)) ∙ natural-sub (x .num * y .den) (y .num * x .den)) i;
+  den = x .den * y .den;
+  den-pos = mul-pos (x .den-pos) (y .den-pos);
+}
 
--- a difference is below z where x is below z plus y
-minus-le : (m n k c : ℕ) → m * k ≤ c + n * k → T (leZ (subℕ m n *ℤ pos k) (pos c))
-minus-le m n k c h = go (ltb m n) (ltb→lt m n) (nltb→le m n)
-  where
-    negative : (r : ℕ) → T (leZ (negℤ (pos r)) (pos c))
-    negative zero = le→leb 0 c (omega arith)
-    negative (suc r) = tt
+-- the numerator of a difference, as a difference of naturals
+minus-num : (x y : Ratio) → Is ((signed x -ᶠ signed y) .num) (x .num * y .den) (y .num * x .den)
+unfolding signed _-ᶠ_
+minus-num x y = record { is = omega (arith, (is-minus (is-pos (x .num * y .den)) (is-pos (y .num * x .den))) .is) }
 
-    go : (t : Bool) → (T t → m < n) → (T (not t) → n ≤ m) → T (leZ (cond t (negsuc (n - suc m)) (pos (m - n)) *ℤ pos k) (pos c))
-    go true p q = negative (suc (n - suc m) * k)
-    go false p q = le→leb ((m - n) * k) c (let e : m - n + n ≡ m = omega (arith, q tt) in omega (arith, ap (λ t. t * k) e))
+-- where nothing is set to 0, the two differences are one
+pub signed-⊖ : {x y : Ratio} → y ≼ x → signed (x ⊖ y) ≡ signed x -ᶠ signed y
+signed-⊖ {x} {y} h = ap signed (sym (nonnegative-minus x y)) ∙ signed-natural (signed x -ᶠ signed y) (is-≤ (is-pos 0) (minus-num x y) (omega (arith, h .le)))
 
+-- a difference is at or below z where x is at or below z plus y; and likewise above
 pub minus-≤ : (x y z : Ratio) → x ≼ z ⊕ y → signed x -ᶠ signed y ≤ᶠ signed z
 unfolding signed _-ᶠ_ _⊕_
-minus-≤ x y z h = record { le = record { le = rw (minus-is (x .num * y .den) (y .num * x .den)) (minus-le (x .num * y .den) (y .num * x .den) (z .den) (z .num * (x .den * y .den)) (omega (arith, h .le))) } }
+minus-≤ x y z h = record {
+  le = is-≤ (is-times (minus-num x y) (is-pos (z .den))) (is-pos (z .num * (x .den * y .den))) (omega (arith, h .le));
+}
+
+pub ≤-minus : (x y z : Ratio) → z ⊕ y ≼ x → signed z ≤ᶠ signed x -ᶠ signed y
+unfolding signed _-ᶠ_ _⊕_
+≤-minus x y z h = record {
+  le = is-≤ (is-pos (z .num * (x .den * y .den))) (is-times (minus-num x y) (is-pos (z .den))) (omega (arith, h .le));
+}

@@ -1,0 +1,60 @@
+-- Powers of natural fractions with a natural exponent.
+use mathlib.Core.Path.{_≡_, refl}
+use mathlib.Core.List.{[], _∷_}
+use Prim.Native.Nat.{ℕ, zero, suc, _+_, _^_, _<_}
+use native.Mathlib.Nat as Nat
+use native.Mathlib.Nat.{zero-lt-suc, zero-add}
+use native.Mathlib.Omega.{arith, patom}
+use Rattle.fraction.proofs.Ratio.{Ratio, _≼_, _≈_, ofℕ, _⊗_, ≼-refl, ≈-refl, ≈-sym, ≈-trans, ⊗-mono, ⊗-cong, ⊗-one, ⊗-assoc, ⊗-pos, ofℕ-⊗, ofℕ-pos}
+use Rattle.fraction.proofs.Certificate.{_*'_, same-value}
+use Rattle.fraction.proofs.Inverse.{inv, inv-⊗, inv-ofℕ, _over_}
+
+-- k factors x
+unfoldable pub pow : Ratio → ℕ → Ratio
+pow x zero = ofℕ 1
+pow x (suc k) = x ⊗ pow x k
+
+pub pow-zero : (x : Ratio) → pow x 0 ≡ ofℕ 1
+unfolding pow
+pow-zero x = refl
+
+pub pow-suc : (x : Ratio) (k : ℕ) → pow x (suc k) ≡ x ⊗ pow x k
+unfolding pow
+pow-suc x k = refl
+
+pub pow-mono : {x y : Ratio} (k : ℕ) → x ≼ y → pow x k ≼ pow y k
+unfolding pow
+pow-mono zero h = ≼-refl _
+pow-mono (suc k) h = ⊗-mono h (pow-mono k h)
+
+pub pow-cong : {x y : Ratio} (k : ℕ) → x ≈ y → pow x k ≈ pow y k
+unfolding pow
+pow-cong zero e = ≈-refl _
+pow-cong (suc k) e = ⊗-cong e (pow-cong k e)
+
+pub pow-pos : (x : Ratio) (k : ℕ) → 0 < x .num → 0 < (pow x k) .num
+unfolding pow
+pow-pos x zero h = ofℕ-pos (zero-lt-suc 0)
+pow-pos x (suc k) h = ⊗-pos x (pow x k) h (pow-pos x k h)
+
+pub pow-⊗ : (x y : Ratio) (k : ℕ) → pow (x ⊗ y) k ≈ pow x k ⊗ pow y k
+unfolding pow
+pow-⊗ x y zero = ≈-sym (⊗-one _)
+pow-⊗ x y (suc k) = ≈-trans (⊗-cong (≈-refl (x ⊗ y)) (pow-⊗ x y k)) (same-value (x ∷ y ∷ pow x k ∷ pow y k ∷ [])
+    (patom 0 *' patom 1 *' (patom 2 *' patom 3)) (patom 0 *' patom 2 *' (patom 1 *' patom 3)) tt tt)
+
+pub pow-+ : (x : Ratio) (m n : ℕ) → pow x (m + n) ≈ pow x m ⊗ pow x n
+unfolding pow
+pow-+ x zero n = rw (zero-add n) (≈-sym (⊗-one _))
+pow-+ x (suc m) n = let e : suc m + n ≡ suc (m + n) = omega arith in
+    rw e (≈-trans (⊗-cong (≈-refl x) (pow-+ x m n)) (≈-sym (⊗-assoc x (pow x m) (pow x n))))
+
+pub pow-ofℕ : (n k : ℕ) → pow (ofℕ n) k ≈ ofℕ (n ^ k)
+unfolding pow
+pow-ofℕ n zero = simp Nat.pow-zero (≈-refl _)
+pow-ofℕ n (suc k) = rw (Nat.pow-succ' n k) (≈-trans (⊗-cong (≈-refl _) (pow-ofℕ n k)) (≈-sym (ofℕ-⊗ n (n ^ k))))
+
+pub pow-inv : (x : Ratio) (k : ℕ) → pow (inv x) k ≈ inv (pow x k)
+unfolding pow
+pow-inv x zero = rw (inv-ofℕ 1) (unfold _over_ ofℕ in record { eq = refl })
+pow-inv x (suc k) = ≈-trans (⊗-cong (≈-refl _) (pow-inv x k)) (≈-sym (inv-⊗ x (pow x k)))
