@@ -1,2 +1,4 @@
 pub mod Valid
 pub mod Members
+pub mod Exits
+pub mod Slots

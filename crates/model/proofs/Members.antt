@@ -3,12 +3,12 @@ use Prim.Native.Nat.{ℕ, zero, suc, _+_, _≤_, _<_}
 use mathlib.Core.Path.{_≡_, refl, sym, ap, _∙_, subst}
 use mathlib.Core.Bool.{Bool, true, false, not, _||_, true≢false, false≢true, or-true, or-assoc}
 use mathlib.Core.Logic.{_⊎_, inl, inr}
-use mathlib.Core.List.{List, [], _∷_, _++_, map, List·Memᴰ, List·Memᴰ·head, List·Memᴰ·tail, List·Memᴰ·not-nil, List·Memᴰ·cases-cons}
+use mathlib.Core.List.{List, [], _∷_, _++_, map, List·Memᴰ, List·Memᴰ·head, List·Memᴰ·tail, List·Memᴰ·cases-cons}
 use native.Mathlib.Nat.{le-of-suc-le-suc, not-suc-le-zero}
 use native.Mathlib.Omega.{arith}
 use lib.ListN.{length, getD}
 use lib.Dec.{ltb, eqb, eqb·suc-zero}
-use borrow.Author.Tests.{lt-ltb}
+use borrow.Author.Tests.{lt-ltb, ltb-true}
 use Rattle.model.specs.Model.{only, any, is-empty}
 use Rattle.model.proofs.Valid.{Each}
 
@@ -164,6 +164,9 @@ module _ {A : Type 0} where
         (λ x l k e h. ap (λ (b : Bool). b || any test l) e ∙ sym (lt-ltb 0 (length (x ∷ k)) (omega arith)))
         (λ x l k e h. ap (λ (b : Bool). b || any test l) e ∙ h)
 
+    pub some-count : (xs : List A) → any test xs ≡ true → 1 ≤ length (only test xs)
+    some-count xs h = ltb-true 0 (length (only test xs)) (sym (any-count xs) ∙ h)
+
   pub is-empty-length : (xs : List A) → is-empty xs ≡ eqb (length xs) 0
   is-empty-length [] = refl
   is-empty-length (x ∷ xs) = sym (eqb·suc-zero (length xs))
@@ -172,3 +175,9 @@ pub each-map : {A B : Type 0} (Q : B → Type 0) (f : A → B) (xs : List A) →
 unfolding Each
 each-map Q f [] h = tt
 each-map Q f (x ∷ xs) h = (h .0, each-map Q f xs (h .1))
+
+-- the i-th of the images is the image of the i-th, whatever stands for what is past the end
+pub lookup-map : {A B : Type 0} (f : A → B) (xs : List A) (i : ℕ) (d : A) (e : B) → i < length xs → getD (map f xs) i e ≡ f (getD xs i d)
+lookup-map f [] i d e h = absurd (not-suc-le-zero h)
+lookup-map f (x ∷ xs) zero d e h = refl
+lookup-map f (x ∷ xs) (suc i) d e h = lookup-map f xs i d e (le-of-suc-le-suc h)

@@ -1,11 +1,11 @@
 -- What holds of every model that is read without a refusal. The layers above use nothing else of the reading.
-use Prim.Native.Nat.{ℕ, zero, suc, _+_, _≤_, _<_}
+use Prim.Native.Nat.{ℕ, _≤_}
 use mathlib.Core.Path.{_≡_}
-use mathlib.Core.Bool.{Bool, true, false}
+use mathlib.Core.Bool.{true, false}
 use mathlib.Core.List.{List, [], _∷_}
 use lib.ListN.{length}
 use Rattle.model.specs.declared.Quantity.{Quantity}
-use Rattle.model.specs.Model.{Manner, slow, fast, Transition, Net, Limits, Model, is-fast, is-empty, exits, has-fast, probability-sum}
+use Rattle.model.specs.Model.{Manner, slow, fast, Transition, Model, is-fast, is-empty, exits, has-fast, probability-sum}
 
 -- a fact of every member of a list
 unfoldable pub Each : {A : Type 0} → (A → Type 0) → List A → Type 0
