@@ -6,3 +6,4 @@ pub mod Up
 pub mod Down
 pub mod Rounding
 pub mod Operations
+pub mod Exact

@@ -3,15 +3,25 @@ use mathlib.Core.Path.{_≡_, refl, sym, _∙_, ap}
 use mathlib.Core.List.{List, [], _∷_}
 use mathlib.Core.Logic.{_⊎_, inl, inr, ⊎-elim}
 use Prim.Native.Nat.{ℕ, zero, suc, _+_, _*_, _-_, _^_, _≤_, _<_}
-use native.Mathlib.Nat.{mul-pos, one-le-pow, zero-lt-suc}
+use native.Mathlib.Nat.{mul-pos, one-le-pow, zero-lt-suc, pow-le-pow-right, pow-succ', lt-of-not-le, not-le-of-lt, le-of-suc-le-suc}
 use native.Mathlib.Omega.{arith, P, patom, plit}
 use lib.IntN.{ℤ, pos, negsuc, sucℤ, predℤ, negℤ, _+ℤ_, _-ℤ_, +ℤ-idl, +ℤ-sucℤ, sucℤ-+ℤ, +ℤ-comm, -ℤ-+ℤ-cancel, suc-pred, pred-suc, negℤ-negℤ, negℤ-+ℤ}
 use Rattle.fraction.proofs.Ratio.{Ratio, _≼_, _≈_, ofℕ, _⊗_, ≼-refl, ≼-trans, ≈-refl, ≈-sym, ≈-trans, ≈-le, ≈-ge, ⊗-mono, ⊗-cong, ⊗-comm, ⊗-assoc, ofℕ-≼, ofℕ-⊗, ofℕ-≤, ⊗-cancel, ≼-or}
 use Rattle.fraction.proofs.Certificate.{_*'_, same-value}
-use Rattle.fraction.proofs.PowersOfTen.{ten-to, ten-pos, ten-suc, ten-≼}
+use Rattle.fraction.proofs.PowersOfTen.{ten-to, ten-pos, ten-suc, ten-nat, ten-+, ten-≼}
 
 pub pow-pos : (w : ℕ) → 0 < 10 ^ w
 pow-pos w = one-le-pow w 10 (zero-lt-suc 9)
+
+pub pow-mono : {i j : ℕ} → i ≤ j → 10 ^ i ≤ 10 ^ j
+pow-mono h = pow-le-pow-right (zero-lt-suc 9) h
+
+-- powers of ten compare as their exponents do
+pub exponent-< : (i j : ℕ) → 10 ^ i < 10 ^ j → i < j
+exponent-< i j h = lt-of-not-le (λ l. not-le-of-lt h (pow-mono l))
+
+pub exponent-≤ : (i j : ℕ) → 10 ^ i ≤ 10 ^ j → i ≤ j
+exponent-≤ i j h = le-of-suc-le-suc (exponent-< i (suc j) (omega (arith, pow-succ' 10 j, pow-pos j)))
 
 pub not-≼ : (x y : Ratio) → ¬ (x ≼ y) → y ≼ x
 not-≼ x y h = ⊎-elim (λ p. absurd (h p)) (λ q. q) (≼-or x y)
@@ -78,3 +88,10 @@ lower-≼ c p k = ⊗-mono (≼-refl _) (rw (+ℤ-sucℤ p (pos k), pred-suc) (t
 -- a multiple of a higher power is at least ten times as many of the lower
 pub higher-≼ : (b c : ℕ) (p : ℤ) (k : ℕ) → b ≤ c → ofℕ (10 * b) ⊗ ten-to p ≼ ofℕ c ⊗ ten-to (p +ℤ pos (suc k))
 higher-≼ b c p k h = ≼-trans (≈-ge (ten-step b p)) (⊗-mono (ofℕ-≼ h) (rw (+ℤ-sucℤ p (pos k), ← sucℤ-+ℤ p (pos k)) (ten-≼ (sucℤ p) k)))
+
+-- a multiple of 10^e is a larger one of a lower power
+pub ten-shift : (c k : ℕ) (e : ℤ) → ofℕ (c * 10 ^ k) ⊗ ten-to (e -ℤ pos k) ≈ ofℕ c ⊗ ten-to e
+ten-shift c k e = ≈-trans (⊗-cong (ofℕ-⊗ c (10 ^ k)) (≈-refl _)) (≈-trans (⊗-assoc _ _ _) (⊗-cong (≈-refl (ofℕ c)) back))
+  where
+    back : ofℕ (10 ^ k) ⊗ ten-to (e -ℤ pos k) ≈ ten-to e
+    back = ≈-trans (⊗-comm _ _) (≈-trans (⊗-cong (≈-refl _) (≈-sym (ten-nat k))) (≈-trans (≈-sym (ten-+ (e -ℤ pos k) (pos k))) (rw -ℤ-+ℤ-cancel (≈-refl _))))

@@ -1,0 +1,133 @@
+-- What the roundings leave alone: a number that w + 1 digits can hold. Assumes nothing.
+use mathlib.Core.Path.{_≡_, refl, sym, _∙_, ap}
+use Prim.Native.Nat.{ℕ, zero, suc, _+_, _*_, _-_, _^_, _≤_, _<_}
+use native.Mathlib.Nat.{le-trans, zero-lt-suc, pow-succ', mul-le-mul-right, mul-lt-mul-of-pos-right, le-of-mul-le-mul-left, lt-irrefl, le-of-suc-le-suc}
+use native.Mathlib.Omega.{arith}
+use lib.Pow.{pow-add}
+use lib.Dec.{lit<}
+use lib.IntN.{ℤ, pos, negsuc, negℤ, _+ℤ_, _-ℤ_, +ℤ-invl}
+use Rattle.fraction.specs.Fraction.{Fraction, _≈ᶠ_, whole, ratio, ten, _*ᶠ_}
+use Rattle.fraction.proofs.Ratio.{Ratio, _≼_, _≈_, ofℕ, _⊗_, ≼-refl, ≼-trans, ≼-antisym, ≈-refl, ≈-sym, ≈-trans, ≈-le, ≈-ge, ⊗-cong, ⊗-comm, ⊗-assoc, ⊗-one, ⊗-zero}
+use Rattle.fraction.proofs.PowersOfTen.{ten-to, ten-zero, ten-nat, ten-+}
+use Rattle.fraction.proofs.Signed.{signed, signed-⊗, signed-whole, signed-ten}
+use Rattle.figure.specs.declared.Figure.{Figure}
+use Rattle.figure.specs.Rounding.{figure, none, value, IsFigure, is-zero, digit-count, up, down}
+use Rattle.figure.specs.Operations.{times-ten, of-whole, of-quantity}
+use Rattle.figure.proofs.Scale.{pow-pos, exponent-<, ten-shift}
+use Rattle.figure.proofs.Digits.{digits-above, digits-below}
+use Rattle.figure.proofs.Value.{val, value-is, val-≼, below-val, above-val, below-value, above-value, figure-of}
+use Rattle.figure.proofs.Up.{natural-up, natural-up-mono}
+use Rattle.figure.proofs.Down.{natural-down, natural-down-mono}
+
+-- x is the value of a figure of w + 1 digits
+pub record Exact (w : ℕ) (x : Ratio) : Type 0 where
+  pub holder : Figure
+  pub is-figure : IsFigure (suc w) holder
+  pub same : val holder ≈ x
+
+pub exact-≈ : {w : ℕ} {x y : Ratio} → x ≈ y → Exact w x → Exact w y
+exact-≈ e h = record { holder = h .holder; is-figure = h .is-figure; same = ≈-trans (h .same) e }
+
+-- ---- rounding up stays below it, rounding down above it, and itself it does not move
+
+pub up-below : {w : ℕ} {x y : Ratio} → Exact w y → x ≼ y → val (up (suc w) (signed x)) ≼ y
+up-below {w} {x} {y} h p = ≼-trans (val-≼ _ _ (natural-up w x .least (h .holder) (h .is-figure) (below-value _ (≼-trans p (≈-ge (h .same)))))) (≈-le (h .same))
+
+pub down-above : {w : ℕ} {x y : Ratio} → Exact w y → y ≼ x → y ≼ val (down (suc w) (signed x))
+down-above {w} {x} {y} h p = ≼-trans (≈-ge (h .same)) (val-≼ _ _ (natural-down w x .greatest (h .holder) (h .is-figure) (above-value _ (≼-trans (≈-le (h .same)) p))))
+
+pub exact-up : {w : ℕ} {x : Ratio} → Exact w x → val (up (suc w) (signed x)) ≈ x
+exact-up {w} {x} h = ≼-antisym (up-below h (≼-refl x)) (below-val _ (natural-up w x .not-below))
+
+pub exact-down : {w : ℕ} {x : Ratio} → Exact w x → val (down (suc w) (signed x)) ≈ x
+exact-down {w} {x} h = ≼-antisym (above-val _ (natural-down w x .not-above)) (down-above h (≼-refl x))
+
+-- ---- a number of at most w + 1 digits, times a power of ten
+
+module _ (w c : ℕ) (e : ℤ) (small : c < 10 ^ suc w) where
+  -- the zeros that fill it up
+  zeros : ℕ
+  zeros = suc w - digit-count c
+
+  module _ (pos-c : 0 < c) where
+    few : digit-count c ≤ suc w
+    few = le-of-suc-le-suc (exponent-< (digit-count c) (suc (suc w)) (omega (arith, digits-below c pos-c, pow-succ' 10 (suc w))))
+
+    filled : 10 ^ digit-count c * 10 ^ zeros ≡ 10 * 10 ^ w
+    unfolding zeros
+    filled = sym (pow-add 10 (digit-count c) (suc w - digit-count c)) ∙ ap (λ t. 10 ^ t) (omega (arith, few)) ∙ pow-succ' 10 w
+
+    padded : Exact w (ofℕ c ⊗ ten-to e)
+    padded = record {
+      holder = figure (c * 10 ^ zeros) (e -ℤ pos zeros);
+      is-figure = figure-of w _
+          (le-of-mul-le-mul-left (omega (arith, mul-le-mul-right (10 ^ zeros) (digits-below c pos-c), filled)) (zero-lt-suc 9))
+          (omega (arith, mul-lt-mul-of-pos-right (digits-above c) (pow-pos zeros), filled));
+      same = ten-shift c zeros e;
+    }
+
+  pub short-exact : Exact w (ofℕ c ⊗ ten-to e)
+  short-exact = go c refl
+    where
+      go : (n : ℕ) → c ≡ n → Exact w (ofℕ c ⊗ ten-to e)
+      go zero z = rw z (record { holder = none; is-figure = is-zero refl refl; same = ≈-trans (⊗-zero _) (≈-sym (⊗-zero _)) })
+      go (suc n) z = padded (rw z (zero-lt-suc n))
+
+pub whole-exact : (w n : ℕ) → n < 10 ^ suc w → Exact w (ofℕ n)
+whole-exact w n h = exact-≈ (≈-trans (⊗-cong (≈-refl _) ten-zero) (≈-trans (⊗-comm _ _) (⊗-one _))) (short-exact w n (pos 0) h)
+
+-- ---- c over d, as a fraction with a natural numerator
+
+unfoldable pub quotient : ℕ → ℕ → Ratio
+quotient c zero = ofℕ 0
+quotient c (suc d) = record { num = c; den = suc d; den-pos = zero-lt-suc d }
+
+pub signed-quotient : (c d : ℕ) → ratio (pos c) d ≡ signed (quotient c d)
+unfolding quotient ratio signed ofℕ whole
+signed-quotient c zero = refl
+signed-quotient c (suc d) = refl
+
+quotient-times : (c d : ℕ) → 0 < d → ofℕ d ⊗ quotient c d ≈ ofℕ c
+unfolding quotient ofℕ _⊗_
+quotient-times c zero h = absurd (lt-irrefl 0 h)
+quotient-times c (suc d) h = record { eq = omega arith }
+
+pub quotient-ten : (c p : ℕ) → quotient c (10 ^ p) ≈ ofℕ c ⊗ ten-to (negℤ (pos p))
+quotient-ten c p = ≈-trans (≈-sym (⊗-one _)) (≈-trans (⊗-cong (≈-sym one) (≈-refl _)) (≈-trans turn (⊗-cong (quotient-times c (10 ^ p) (pow-pos p)) (≈-refl _))))
+  where
+    t : Ratio
+    t = ten-to (negℤ (pos p))
+
+    one : t ⊗ ofℕ (10 ^ p) ≈ ofℕ 1
+    one = ≈-trans (⊗-cong (≈-refl _) (≈-sym (ten-nat p))) (≈-trans (≈-sym (ten-+ (negℤ (pos p)) (pos p))) (rw (+ℤ-invl (pos p)) ten-zero))
+
+    turn : t ⊗ ofℕ (10 ^ p) ⊗ quotient c (10 ^ p) ≈ ofℕ (10 ^ p) ⊗ quotient c (10 ^ p) ⊗ t
+    turn = ≈-trans (⊗-assoc _ _ _) (⊗-comm _ _)
+
+-- ---- the operations that are exact
+
+signed-≈ : {x y : Ratio} → x ≈ y → signed x ≈ᶠ signed y
+unfolding signed
+signed-≈ e = record { eq = ap pos (e .eq) }
+
+-- a whole number of at most nine digits
+pub of-whole-exact : (n : ℕ) → n < 10 ^ 9 → value (of-whole n) ≈ᶠ whole n
+unfolding of-whole
+of-whole-exact n h = rw (value-is (down 9 (whole n)), ← signed-whole n) (signed-≈ (exact-down (whole-exact 8 n h)))
+
+-- a quantity
+pub of-quantity-exact : (c p : ℕ) → c < 10 ^ 9 → value (of-quantity c p) ≈ᶠ ratio (pos c) (10 ^ p)
+unfolding of-quantity
+of-quantity-exact c p h = rw (value-is (up 9 (ratio (pos c) (10 ^ p))), signed-quotient c (10 ^ p)) (signed-≈ (exact-up (exact-≈ (≈-sym (quotient-ten c p)) (short-exact 8 c (negℤ (pos p)) h))))
+
+-- times a power of ten
+pub natural-times-ten : (a : Figure) (p : ℤ) → val (times-ten a p) ≈ val a ⊗ ten-to p
+unfolding times-ten
+natural-times-ten a p = go (a .digits) refl
+  where
+    go : (d : ℕ) → a .digits ≡ d → val (elim d as (λ _. Figure) [ zero ↦ none | suc d ↦ figure (suc d) (a .power +ℤ p) ]) ≈ val a ⊗ ten-to p
+    go zero z = rw z (≈-trans (⊗-zero _) (≈-sym (≈-trans (⊗-assoc _ _ _) (⊗-zero _))))
+    go (suc d) z = rw z (≈-trans (⊗-cong (≈-refl _) (ten-+ (a .power) p)) (≈-sym (⊗-assoc _ _ _)))
+
+pub times-ten-exact : (a : Figure) (p : ℤ) → value (times-ten a p) ≈ᶠ value a *ᶠ ten p
+times-ten-exact a p = rw (value-is (times-ten a p), value-is a, ← signed-ten p, ← signed-⊗ (val a) (ten-to p)) (signed-≈ (natural-times-ten a p))
