@@ -2,3 +2,4 @@ pub mod Valid
 pub mod Members
 pub mod Exits
 pub mod Slots
+pub mod Refusals

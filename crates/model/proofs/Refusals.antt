@@ -1,0 +1,212 @@
+-- What reading answers, one refusal after the other: the words' number, the budget, the words from the left, the model. Assumes nothing.
+use Prim.Native.Nat.{ℕ, zero, suc, _+_, _≤_, _<_}
+use mathlib.Core.Path.{_≡_, refl, sym, ap, _∙_}
+use mathlib.Core.Bool.{Bool, true, false, or-true}
+use mathlib.Core.List.{List, [], _∷_}
+use native.Mathlib.Omega.{arith}
+use native.Mathlib.Decide.{decLe}
+use lib.Arith.{le-zero}
+use lib.ListN.{length}
+use lib.Dec.{ltb, eqb}
+use borrow.Author.Tests.{lt-ltb, le-ltb, ltb-false, eqb-true, not-false}
+use Rattle.model.specs.Model.{Net, Model, is-empty, exits}
+use Rattle.model.specs.Faults.{Fault, outside, differs}
+use Rattle.model.specs.Reading.{Answer, refused, granted, then, Reader, at-head, wrong, right, unless, read-from, uneven, lowest-uneven, Finding, model-findings, caller-findings, first-of, read}
+use Rattle.model.proofs.Valid.{Each}
+use Rattle.model.proofs.Members.{neither}
+
+-- ---- tests
+
+pub inside : (least most n : ℕ) → outside least most n ≡ false → (least ≤ n) × (n ≤ most)
+inside least most n e = let (low, high) = neither (ltb n least) (ltb most n) e in (ltb-false n least low, ltb-false most n high)
+
+pub inside-test : (least most n : ℕ) → least ≤ n → n ≤ most → outside least most n ≡ false
+inside-test least most n low high = rw (le-ltb n least low, le-ltb most n high)
+
+pub below-test : (least most n : ℕ) → n < least → outside least most n ≡ true
+below-test least most n low = rw (lt-ltb n least low)
+
+pub above-test : (least most n : ℕ) → most < n → outside least most n ≡ true
+above-test least most n high = rw (lt-ltb most n high, or-true)
+
+pub differs-false : (a b : ℕ) → differs a b ≡ false → a ≡ b
+differs-false a b e = eqb-true a b (not-false (eqb a b) e)
+
+-- ---- the first fault that holds
+
+pub unless-here : (f : Fault) (fs : List Fault) (r : Reader) → f .holds ≡ true → unless (f ∷ fs) r ≡ wrong (f .number)
+unfolding unless
+unless-here f fs r e = rw (e, unless)
+
+pub unless-past : (f : Fault) (fs : List Fault) (r : Reader) → f .holds ≡ false → unless (f ∷ fs) r ≡ unless fs r
+unfolding unless
+unless-past f fs r e = rw (e, unless)
+
+pub unless-none : (fs : List Fault) (r : Reader) → Each (λ f. f .holds ≡ false) fs → unless fs r ≡ right r
+unfolding unless Each
+unless-none [] r h = refl
+unless-none (f ∷ fs) r h = unless-past f fs r (h .0) ∙ unless-none fs r (h .1)
+
+pub unless-right : (fs : List Fault) (r r′ : Reader) → unless fs r ≡ right r′ → Each (λ f. f .holds ≡ false) fs × (r ≡ r′)
+unfolding unless Each
+unless-right [] r r′ e = (tt, cc)
+unless-right (f ∷ fs) r r′ e = go (f .holds) refl (unless-right fs r r′)
+  where
+    go : (b : Bool) → f .holds ≡ b → (unless fs r ≡ right r′ → Each (λ f. f .holds ≡ false) fs × (r ≡ r′)) → Each (λ f. f .holds ≡ false) (f ∷ fs) × (r ≡ r′)
+    go true h below = let z : _≡_ {A = ℕ} 0 1 = cc (unless-here f fs r h) in absurd (omega arith)
+    go false h below = let (rest, same-reader) = below (sym (unless-past f fs r h) ∙ e) in ((h, rest), same-reader)
+
+-- ---- the first finding that holds
+
+module _ {A : Type 0} where
+  pub first-here : (f : Finding) (fs : List Finding) (a : A) → f .fault .holds ≡ true → first-of (f ∷ fs) a ≡ refused (f .fault .number) (f .place)
+  unfolding first-of
+  first-here f fs a e = rw (e, first-of)
+
+  pub first-past : (f : Finding) (fs : List Finding) (a : A) → f .fault .holds ≡ false → first-of (f ∷ fs) a ≡ first-of fs a
+  unfolding first-of
+  first-past f fs a e = rw (e, first-of)
+
+  pub first-none : (fs : List Finding) (a : A) → Each (λ f. f .fault .holds ≡ false) fs → first-of fs a ≡ granted a
+  unfolding first-of Each
+  first-none [] a h = refl
+  first-none (f ∷ fs) a h = first-past f fs a (h .0) ∙ first-none fs a (h .1)
+
+  pub first-granted : (fs : List Finding) (a b : A) → first-of fs a ≡ granted b → Each (λ f. f .fault .holds ≡ false) fs × (a ≡ b)
+  unfolding first-of Each
+  first-granted [] a b e = (tt, cc)
+  first-granted (f ∷ fs) a b e = go (f .fault .holds) refl (first-granted fs a b)
+    where
+      go : (t : Bool) → f .fault .holds ≡ t → (first-of fs a ≡ granted b → Each (λ f. f .fault .holds ≡ false) fs × (a ≡ b)) → Each (λ f. f .fault .holds ≡ false) (f ∷ fs) × (a ≡ b)
+      go true h below = let z : _≡_ {A = ℕ} 0 1 = cc (first-here f fs a h) in absurd (omega arith)
+      go false h below = let (rest, same-value) = below (sym (first-past f fs a h) ∙ e) in ((h, rest), same-value)
+
+-- ---- the lowest uneven state
+
+module _ (net : Net) where
+  pub lowest-here : (n s : ℕ) → uneven net s ≡ true → lowest-uneven net (suc n) s ≡ s
+  unfolding lowest-uneven
+  lowest-here n s e = rw (e, lowest-uneven)
+
+  pub lowest-later : (n s : ℕ) → uneven net s ≡ false → lowest-uneven net (suc n) s ≡ lowest-uneven net n (suc s)
+  unfolding lowest-uneven
+  lowest-later n s e = rw (e, lowest-uneven)
+
+  pub lowest-below : (n s : ℕ) → 1 ≤ s → lowest-uneven net n s < s + n
+  unfolding lowest-uneven
+  lowest-below zero s h = omega arith
+  lowest-below (suc n) s h = go (uneven net s) refl (lowest-below n (suc s) (omega arith))
+    where
+      go : (b : Bool) → uneven net s ≡ b → lowest-uneven net n (suc s) < suc s + n → lowest-uneven net (suc n) s < s + suc n
+      go true e below = omega (arith, lowest-here n s e)
+      go false e below = omega (arith, lowest-later n s e)
+
+  -- it is 0 exactly if no state is uneven
+  pub lowest-none : (n s : ℕ) → 1 ≤ s → lowest-uneven net n s ≡ 0 → (k : ℕ) → s ≤ k → k < s + n → uneven net k ≡ false
+  lowest-none zero s h z k low high = absurd (omega arith)
+  lowest-none (suc n) s h z k low high = go (uneven net s) refl (decLe (suc s) k) (lowest-none n (suc s) (omega arith))
+    where
+      go : (b : Bool) → uneven net s ≡ b → Dec (suc s ≤ k) → (lowest-uneven net n (suc s) ≡ 0 → (j : ℕ) → suc s ≤ j → j < suc s + n → uneven net j ≡ false) → uneven net k ≡ false
+      go true e d below = absurd (omega (arith, lowest-here n s e))
+      go false e (yes above) below = below (sym (lowest-later n s e) ∙ z) k above (omega arith)
+      go false e (no here) below = let q : k ≡ s = omega arith in rw q e
+
+  pub lowest-zero : (n s : ℕ) → ((k : ℕ) → s ≤ k → k < s + n → uneven net k ≡ false) → lowest-uneven net n s ≡ 0
+  unfolding lowest-uneven
+  lowest-zero zero s h = refl
+  lowest-zero (suc n) s h = lowest-later n s (h s (omega arith) (omega arith)) ∙ lowest-zero n (suc s) (λ k low high. h k (omega arith) (omega arith))
+
+-- ---- the answer, by what was found first
+
+-- what is read once the caller's two tests are passed
+abbrev words-answer : List ℕ → Answer Model
+words-answer ws = then (read-from at-head 0 ws) (λ m. first-of (model-findings m) m)
+
+read-caller : (ws : List ℕ) (budget : ℕ) (x : Answer (List ℕ)) → first-of (caller-findings ws budget) ws ≡ x → read ws budget ≡ then x words-answer
+unfolding read
+read-caller ws budget x e = ap (λ (y : Answer (List ℕ)). then y words-answer) e
+
+pub read-too-long : (ws : List ℕ) (budget : ℕ) → 16005 < length ws → read ws budget ≡ refused 1 0
+unfolding then
+read-too-long ws budget h = read-caller ws budget (refused 1 0) (first-here _ _ ws (lt-ltb 16005 (length ws) h))
+
+module _ (ws : List ℕ) (budget : ℕ) (short : length ws ≤ 16005) where
+  pub read-bad-budget : outside 1 1000000 budget ≡ true → read ws budget ≡ refused 2 0
+  unfolding then
+  read-bad-budget e = read-caller ws budget (refused 2 0) (first-past _ _ ws (le-ltb 16005 (length ws) short) ∙ first-here _ _ ws e)
+
+  module _ (low : 1 ≤ budget) (high : budget ≤ 1000000) where
+    read-on : read ws budget ≡ words-answer ws
+    unfolding then Each
+    read-on = read-caller ws budget (granted ws) (first-none _ ws (le-ltb 16005 (length ws) short, (inside-test 1 1000000 budget low high, tt)))
+
+    pub read-bad-word : (number place : ℕ) → read-from at-head 0 ws ≡ refused number place → read ws budget ≡ refused number place
+    unfolding then
+    read-bad-word number place e = read-on ∙ rw e
+
+    module _ (m : Model) (reads : read-from at-head 0 ws ≡ granted m) where
+      read-whole : read ws budget ≡ first-of (model-findings m) m
+      unfolding then
+      read-whole = read-on ∙ rw reads
+
+      pub read-uneven : 0 < lowest-uneven (m .net) (m .states) 1 → read ws budget ≡ refused 10 (lowest-uneven (m .net) (m .states) 1)
+      read-uneven h = read-whole ∙ first-here _ _ m (lt-ltb 0 (lowest-uneven (m .net) (m .states) 1) h)
+
+      module _ (even : lowest-uneven (m .net) (m .states) 1 ≡ 0) where
+        past : ltb 0 (lowest-uneven (m .net) (m .states) 1) ≡ false
+        past = rw even
+
+        pub read-no-exits : is-empty (exits (m .net) (m .net .start)) ≡ true → read ws budget ≡ refused 11 (m .net .start)
+        read-no-exits e = read-whole ∙ first-past _ _ m past ∙ first-here _ _ m e
+
+        pub read-grants : is-empty (exits (m .net) (m .net .start)) ≡ false → read ws budget ≡ granted m
+        unfolding Each
+        read-grants e = read-whole ∙ first-none _ m (past, (e, tt))
+
+-- ---- what a granted model says of the words and the budget
+
+-- all that was tested, and how it came out
+pub record Granted (ws : List ℕ) (budget : ℕ) (m : Model) : Type 0 where
+  pub words-few : length ws ≤ 16005
+  pub budget-low : 1 ≤ budget
+  pub budget-high : budget ≤ 1000000
+  pub reads : read-from at-head 0 ws ≡ granted m
+  pub none-uneven : lowest-uneven (m .net) (m .states) 1 ≡ 0
+  pub start-exits : is-empty (exits (m .net) (m .net .start)) ≡ false
+
+then-granted : {A B : Type 0} (x : Answer A) (f : A → Answer B) (b : B) → then x f ≡ granted b → (a : A) × (x ≡ granted a) × (f a ≡ granted b)
+unfolding then
+then-granted (refused number place) f b e = let z : _≡_ {A = ℕ} 0 1 = cc in absurd (omega arith)
+then-granted (granted a) f b e = (a, refl, e)
+
+pub read-granted : (ws : List ℕ) (budget : ℕ) (m : Model) → read ws budget ≡ granted m → Granted ws budget m
+unfolding read
+read-granted ws budget m e =
+    let (ws′, passed, rest) = then-granted (first-of (caller-findings ws budget) ws) words-answer m e in
+    let (m′, reads, last) = then-granted (read-from at-head 0 ws′) (λ (x : Model). first-of (model-findings x) x) m rest in
+    let caller = first-granted (caller-findings ws budget) ws ws′ passed in
+    let model = first-granted (model-findings m′) m′ m last in
+    from-tests ws′ m′ (caller .0) (caller .1) reads (model .0) (model .1)
+  where
+    from-tests : (ws′ : List ℕ) (m′ : Model) → Each (λ f. f .fault .holds ≡ false) (caller-findings ws budget) → ws ≡ ws′ → read-from at-head 0 ws′ ≡ granted m′
+        → Each (λ f. f .fault .holds ≡ false) (model-findings m′) → m′ ≡ m → Granted ws budget m
+    from-tests ws′ m′ caller same-words reads model same-model = unfold Each in
+        let budget-in = inside 1 1000000 budget (caller .1 .0) in
+        let tests = rw same-model at model in
+        record {
+          words-few = ltb-false 16005 (length ws) (caller .0);
+          budget-low = budget-in .0;
+          budget-high = budget-in .1;
+          reads = ap (read-from at-head 0) same-words ∙ reads ∙ ap granted same-model;
+          none-uneven = le-zero (ltb-false 0 (lowest-uneven (m .net) (m .states) 1) (tests .0));
+          start-exits = tests .1 .0;
+        }
+
+pub read-words : (ws : List ℕ) (budget : ℕ) (m : Model) → read ws budget ≡ granted m → length ws ≤ 16005
+read-words ws budget m e = (read-granted ws budget m e) .words-few
+
+pub read-budget : (ws : List ℕ) (budget : ℕ) (m : Model) → read ws budget ≡ granted m → (1 ≤ budget) × (budget ≤ 1000000)
+read-budget ws budget m e = ((read-granted ws budget m e) .budget-low, (read-granted ws budget m e) .budget-high)
+
+pub read-reads : (ws : List ℕ) (budget : ℕ) (m : Model) → read ws budget ≡ granted m → read-from at-head 0 ws ≡ granted m
+read-reads ws budget m e = (read-granted ws budget m e) .reads
