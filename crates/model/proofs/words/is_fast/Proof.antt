@@ -1,0 +1,16 @@
+-- `model::words::is_fast` meets its contract. Assumes nothing.
+use mathlib.Core.Path.{ap}
+use Prim.Native.Nat.{ℕ}
+use lib.Dec.{eqb}
+use borrow.Author.Needs.{needs}
+use Rattle.model.proofs.words.is_fast.Statement.{statement}
+use Rattle.model.proofs.words.is_fast.Tie as tie
+
+kind-requires : tie.Need-kind-requires
+kind-requires c κs = search needs
+
+returns : tie.Need-returns
+returns c = ap (λ (k : ℕ). eqb k 7) (c .kind .ensures)
+
+pub is-fast-spec : {M : Type 1} → statement M
+is-fast-spec = tie.close (tie.spec kind-requires returns)
