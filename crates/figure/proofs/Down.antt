@@ -16,7 +16,7 @@ use Rattle.fraction.proofs.Multiples.{floorOver, under-reach, under-greatest}
 use Rattle.fraction.proofs.Signed.{signed}
 use Rattle.figure.specs.declared.Figure.{Figure}
 use Rattle.figure.specs.Rounding.{figure, none, IsFigure, is-zero, IsDown, dividend, divisor, floor, down-from, down}
-use Rattle.figure.proofs.Scale.{pow-pos, not-≼, zero-below, multiple-pos, pos-above, ten-step, multiple-≼, Powers, same-power, lower, higher, powers, higher-≼}
+use Rattle.figure.proofs.Scale.{pow-pos, not-≼, zero-below, multiple-pos, ten-step, multiple-≼, Powers, same-power, lower, higher, powers, higher-≼}
 use Rattle.figure.proofs.Digits.{start, start-low, start-not-high}
 use Rattle.figure.proofs.Value.{val, above-value, above-val, value-≼, val-≼, low-end, figure-of, Shape, empty, full, shape, figure-same}
 

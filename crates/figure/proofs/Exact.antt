@@ -5,15 +5,16 @@ use native.Mathlib.Nat.{le-trans, zero-lt-suc, pow-succ', mul-le-mul-right, mul-
 use native.Mathlib.Omega.{arith}
 use lib.Pow.{pow-add}
 use lib.Dec.{lit<}
-use lib.IntN.{ℤ, pos, negsuc, negℤ, _+ℤ_, _-ℤ_, +ℤ-invl}
+use lib.IntN.{ℤ, pos, negsuc, negℤ, _+ℤ_, _-ℤ_}
 use Rattle.fraction.specs.Fraction.{Fraction, _≈ᶠ_, whole, ratio, ten, _*ᶠ_}
 use Rattle.fraction.proofs.Ratio.{Ratio, _≼_, _≈_, ofℕ, _⊗_, ≼-refl, ≼-trans, ≼-antisym, ≈-refl, ≈-sym, ≈-trans, ≈-le, ≈-ge, ⊗-cong, ⊗-comm, ⊗-assoc, ⊗-one, ⊗-zero}
-use Rattle.fraction.proofs.PowersOfTen.{ten-to, ten-zero, ten-nat, ten-+}
-use Rattle.fraction.proofs.Signed.{signed, signed-⊗, signed-whole, signed-ten}
+use Rattle.fraction.proofs.PowersOfTen.{ten-to, ten-zero, ten-+}
+use Rattle.fraction.proofs.Inverse.{_over_, over-is}
+use Rattle.fraction.proofs.Signed.{signed, signed-≈, signed-⊗, signed-whole, signed-ten, signed-ratio}
 use Rattle.figure.specs.declared.Figure.{Figure}
 use Rattle.figure.specs.Rounding.{figure, none, value, IsFigure, is-zero, digit-count, up, down}
 use Rattle.figure.specs.Operations.{times-ten, of-whole, of-quantity}
-use Rattle.figure.proofs.Scale.{pow-pos, exponent-<, ten-shift}
+use Rattle.figure.proofs.Scale.{pow-pos, exponent-<, ten-shift, power-inverse}
 use Rattle.figure.proofs.Digits.{digits-above, digits-below}
 use Rattle.figure.proofs.Value.{val, value-is, val-≼, below-val, above-val, below-value, above-value, figure-of}
 use Rattle.figure.proofs.Up.{natural-up, natural-up-mono}
@@ -76,39 +77,21 @@ module _ (w c : ℕ) (e : ℤ) (small : c < 10 ^ suc w) where
 pub whole-exact : (w n : ℕ) → n < 10 ^ suc w → Exact w (ofℕ n)
 whole-exact w n h = exact-≈ (≈-trans (⊗-cong (≈-refl _) ten-zero) (≈-trans (⊗-comm _ _) (⊗-one _))) (short-exact w n (pos 0) h)
 
--- ---- c over d, as a fraction with a natural numerator
+-- ---- c / 10^p is c times a power of ten
 
-unfoldable pub quotient : ℕ → ℕ → Ratio
-quotient c zero = ofℕ 0
-quotient c (suc d) = record { num = c; den = suc d; den-pos = zero-lt-suc d }
-
-pub signed-quotient : (c d : ℕ) → ratio (pos c) d ≡ signed (quotient c d)
-unfolding quotient ratio signed ofℕ whole
-signed-quotient c zero = refl
-signed-quotient c (suc d) = refl
-
-quotient-times : (c d : ℕ) → 0 < d → ofℕ d ⊗ quotient c d ≈ ofℕ c
-unfolding quotient ofℕ _⊗_
-quotient-times c zero h = absurd (lt-irrefl 0 h)
-quotient-times c (suc d) h = record { eq = omega arith }
-
-pub quotient-ten : (c p : ℕ) → quotient c (10 ^ p) ≈ ofℕ c ⊗ ten-to (negℤ (pos p))
-quotient-ten c p = ≈-trans (≈-sym (⊗-one _)) (≈-trans (⊗-cong (≈-sym one) (≈-refl _)) (≈-trans turn (⊗-cong (quotient-times c (10 ^ p) (pow-pos p)) (≈-refl _))))
+pub over-ten : (c p : ℕ) → c over (10 ^ p) ≈ ofℕ c ⊗ ten-to (negℤ (pos p))
+over-ten c p = ≈-trans (≈-sym (⊗-one _)) (≈-trans (⊗-cong (≈-sym one) (≈-refl _)) (≈-trans turn (⊗-cong (over-is c (10 ^ p) (pow-pos p)) (≈-refl _))))
   where
     t : Ratio
     t = ten-to (negℤ (pos p))
 
     one : t ⊗ ofℕ (10 ^ p) ≈ ofℕ 1
-    one = ≈-trans (⊗-cong (≈-refl _) (≈-sym (ten-nat p))) (≈-trans (≈-sym (ten-+ (negℤ (pos p)) (pos p))) (rw (+ℤ-invl (pos p)) ten-zero))
+    one = ≈-trans (⊗-comm _ _) (power-inverse p)
 
-    turn : t ⊗ ofℕ (10 ^ p) ⊗ quotient c (10 ^ p) ≈ ofℕ (10 ^ p) ⊗ quotient c (10 ^ p) ⊗ t
+    turn : t ⊗ ofℕ (10 ^ p) ⊗ c over (10 ^ p) ≈ ofℕ (10 ^ p) ⊗ c over (10 ^ p) ⊗ t
     turn = ≈-trans (⊗-assoc _ _ _) (⊗-comm _ _)
 
 -- ---- the operations that are exact
-
-signed-≈ : {x y : Ratio} → x ≈ y → signed x ≈ᶠ signed y
-unfolding signed
-signed-≈ e = record { eq = ap pos (e .eq) }
 
 -- a whole number of at most nine digits
 pub of-whole-exact : (n : ℕ) → n < 10 ^ 9 → value (of-whole n) ≈ᶠ whole n
@@ -118,7 +101,7 @@ of-whole-exact n h = rw (value-is (down 9 (whole n)), ← signed-whole n) (signe
 -- a quantity
 pub of-quantity-exact : (c p : ℕ) → c < 10 ^ 9 → value (of-quantity c p) ≈ᶠ ratio (pos c) (10 ^ p)
 unfolding of-quantity
-of-quantity-exact c p h = rw (value-is (up 9 (ratio (pos c) (10 ^ p))), signed-quotient c (10 ^ p)) (signed-≈ (exact-up (exact-≈ (≈-sym (quotient-ten c p)) (short-exact 8 c (negℤ (pos p)) h))))
+of-quantity-exact c p h = rw (value-is (up 9 (ratio (pos c) (10 ^ p))), ← signed-ratio c (10 ^ p)) (signed-≈ (exact-up (exact-≈ (≈-sym (over-ten c p)) (short-exact 8 c (negℤ (pos p)) h))))
 
 -- times a power of ten
 pub natural-times-ten : (a : Figure) (p : ℤ) → val (times-ten a p) ≈ val a ⊗ ten-to p

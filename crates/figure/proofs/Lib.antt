@@ -7,3 +7,4 @@ pub mod Down
 pub mod Rounding
 pub mod Operations
 pub mod Exact
+pub mod Reach

@@ -5,7 +5,7 @@ use lib.IntN.{ℤ, pos}
 use Rattle.fraction.specs.Fraction.{Fraction, whole, ratio, inverse, _+ᶠ_, _-ᶠ_, _*ᶠ_, _/ᶠ_}
 use Rattle.fraction.proofs.Ratio.{Ratio, ofℕ, _⊕_, _⊗_, _⊖_}
 use Rattle.fraction.proofs.Inverse.{inv}
-use Rattle.fraction.proofs.Signed.{signed, nonnegative, signed-⊕, signed-⊗, signed-inv, nonnegative-minus}
+use Rattle.fraction.proofs.Signed.{signed, nonnegative, signed-⊕, signed-⊗, signed-quotient, nonnegative-minus}
 use Rattle.figure.specs.declared.Figure.{Figure}
 use Rattle.figure.specs.Rounding.{value, up, down}
 use Rattle.figure.proofs.Value.{val, value-is}
@@ -18,8 +18,7 @@ pub value-plus : (a b : Figure) → value a +ᶠ value b ≡ signed (val a ⊕ v
 value-plus a b = ap₂ _+ᶠ_ (value-is a) (value-is b) ∙ sym (signed-⊕ (val a) (val b))
 
 pub value-divided : (a b : Figure) → value a /ᶠ value b ≡ signed (val a ⊗ inv (val b))
-unfolding _/ᶠ_
-value-divided a b = ap₂ (λ s t. s *ᶠ inverse t) (value-is a) (value-is b) ∙ ap (λ t. signed (val a) *ᶠ t) (sym (signed-inv (val b))) ∙ sym (signed-⊗ (val a) (inv (val b)))
+value-divided a b = ap₂ _/ᶠ_ (value-is a) (value-is b) ∙ sym (signed-quotient (val a) (val b))
 
 -- a difference that is negative is rounded as 0 is
 

@@ -3,21 +3,25 @@ use mathlib.Core.Path.{_≡_, refl, sym, _∙_, ap}
 use mathlib.Core.List.{List, [], _∷_}
 use Prim.Native.Nat.{ℕ, zero, suc, _+_, _*_, _-_, _^_, _≤_, _<_}
 use native.Mathlib.Omega.{arith, P, patom, plit}
-use lib.IntN.{ℤ, pos, negsuc, negℤ, +ℤ-invr}
+use lib.IntN.{ℤ, pos, negsuc, negℤ}
 use Rattle.fraction.specs.Fraction.{Fraction, _≤ᶠ_, _≈ᶠ_, whole, ten, _+ᶠ_, _-ᶠ_, _*ᶠ_}
-use Rattle.fraction.proofs.Ratio.{Ratio, _≼_, _≈_, ofℕ, _⊕_, _⊗_, _⊖_, ≼-refl, ≼-trans, ≈-le, ≈-ge, ≈-trans, ≈-sym, ≈-refl, ⊗-cong, ⊗-mono, ⊗-one, ⊗-cancel, ofℕ-⊕, ofℕ-≼}
+use Rattle.fraction.proofs.Ratio.{Ratio, _≼_, _≈_, ofℕ, _⊕_, _⊗_, _⊖_, ≼-refl, ≼-trans, ≈-le, ≈-ge, ≈-trans, ≈-sym, ≈-refl, ⊗-cong, ⊗-mono, ⊗-one, ⊗-cancel, ofℕ-⊕, ofℕ-≼, ofℕ-pos, ⊖-back}
 use Rattle.fraction.proofs.Certificate.{_+'_, _*'_, prove, hyp}
-use Rattle.fraction.proofs.PowersOfTen.{ten-to, ten-+, ten-zero, ten-nat}
-use Rattle.fraction.proofs.Signed.{signed, nonnegative, signed-≼, signed-⊕, signed-⊗, signed-whole, signed-ten}
+use Rattle.fraction.proofs.PowersOfTen.{ten-to}
+use Rattle.fraction.proofs.Signed.{signed, nonnegative, signed-nonnegative, signed-⊕, signed-⊗, signed-⊖, signed-whole, signed-ten}
 use Rattle.figure.specs.declared.Figure.{Figure}
 use Rattle.figure.specs.Rounding.{none, value, IsFigure, IsUp, IsDown, dividend, divisor, floor, ceiling, lowest-power, up-from, down-from, up, down}
-use Rattle.figure.proofs.Nonnegative.{over, signed-nonnegative, nonnegative-≼, ≈ᶠ-≤, ≈ᶠ-≥, not-positive, signed-⊖, ⊖-back}
-use Rattle.figure.proofs.Scale.{pow-pos}
+use Rattle.figure.proofs.Nonnegative.{≈ᶠ-≤, ≈ᶠ-≥, nonnegative-≼, not-positive}
+use Rattle.figure.proofs.Scale.{pow-pos, power-inverse}
 use Rattle.figure.proofs.Value.{val, value-is, value-≼, val-≼, above-value, below-value, figure-same}
 use Rattle.figure.proofs.Up as Up
 use Rattle.figure.proofs.Down as Down
 
 -- ---- a fraction below 0 is rounded as 0 is
+
+-- the fraction with another numerator
+abbrev over : ℤ → Fraction → Fraction
+over z x = record { num = z; den = x .den; den-pos = x .den-pos }
 
 pub up-natural : (K : ℕ) (x : Fraction) → up K x ≡ up K (signed (nonnegative x))
 unfolding up signed nonnegative
@@ -44,10 +48,10 @@ down-none K x h = down-natural K x ∙ Down.down-zero K (nonnegative x) (not-pos
 -- ---- "Up(x) is the least figure not below x, down(x) the greatest not above", and each is the only one
 
 pub up-is-up : (w : ℕ) (x : Fraction) → whole 0 ≤ᶠ x → IsUp (suc w) x (up (suc w) x)
-up-is-up w x h = rw (signed-nonnegative x h) at (Up.natural-up w (nonnegative x))
+up-is-up w x h = rw (signed-nonnegative h) at (Up.natural-up w (nonnegative x))
 
 pub down-is-down : (w : ℕ) (x : Fraction) → whole 0 ≤ᶠ x → IsDown (suc w) x (down (suc w) x)
-down-is-down w x h = rw (signed-nonnegative x h) at (Down.natural-down w (nonnegative x))
+down-is-down w x h = rw (signed-nonnegative h) at (Down.natural-down w (nonnegative x))
 
 pub up-unique : (w : ℕ) (x : Fraction) (f g : Figure) → IsUp (suc w) x f → IsUp (suc w) x g → f ≡ g
 up-unique = Up.up-unique
@@ -88,30 +92,27 @@ down-of-figure w f i = Down.down-unique w (value f) _ f (rw (value-is f) (Down.n
 
 -- ---- a rounding goes at most one part in 10^w away
 
-part-is : (w : ℕ) → ofℕ (10 ^ w) ⊗ ten-to (negℤ (pos w)) ≈ ofℕ 1
-part-is w = ≈-trans (⊗-cong (≈-sym (ten-nat w)) (≈-refl _)) (≈-trans (≈-sym (ten-+ (pos w) (negℤ (pos w)))) (rw (+ℤ-invr (pos w)) ten-zero))
-
 part-small : (w : ℕ) → ten-to (negℤ (pos w)) ≼ ofℕ 1
-part-small w = ≼-trans (≈-ge (⊗-one _)) (≼-trans (⊗-mono (ofℕ-≼ (pow-pos w)) (≼-refl _)) (≈-le (part-is w)))
+part-small w = ≼-trans (≈-ge (⊗-one _)) (≼-trans (⊗-mono (ofℕ-≼ (pow-pos w)) (≼-refl _)) (≈-le (power-inverse w)))
 
 scale-cancel : (w : ℕ) {x y : Ratio} → ofℕ (10 ^ w) ⊗ x ≼ ofℕ (10 ^ w) ⊗ y → x ≼ y
-scale-cancel w h = ⊗-cancel (ofℕ (10 ^ w)) (unfold ofℕ in pow-pos w) h
+scale-cancel w h = ⊗-cancel (ofℕ (10 ^ w)) (ofℕ-pos (pow-pos w)) h
 
 natural-up-within : (w : ℕ) (x : Ratio) → val (up (suc w) (signed x)) ≼ x ⊗ (ofℕ 1 ⊕ ten-to (negℤ (pos w)))
 natural-up-within w x = scale-cancel w (prove (ofℕ (10 ^ w) ∷ val (up (suc w) (signed x)) ∷ ofℕ (10 ^ w + 1) ∷ x ∷ ten-to (negℤ (pos w)) ∷ [])
     (hyp (plit 1) (patom 0 *' patom 1) (patom 2 *' patom 3) ∷ hyp (patom 3) (patom 2) (patom 0 +' plit 1) ∷ hyp (patom 3) (plit 1) (patom 0 *' patom 4) ∷ [])
     (patom 0 *' patom 1) (patom 0 *' (patom 3 *' (plit 1 +' patom 4))) tt
-    (Up.up-near w x) (≈-le (ofℕ-⊕ (10 ^ w) 1)) (≈-ge (part-is w)))
+    (Up.up-near w x) (≈-le (ofℕ-⊕ (10 ^ w) 1)) (≈-ge (power-inverse w)))
 
 natural-down-within : (w : ℕ) (x : Ratio) → x ⊗ (ofℕ 1 ⊖ ten-to (negℤ (pos w))) ≼ val (down (suc w) (signed x))
 natural-down-within w x = scale-cancel w (prove (ofℕ (10 ^ w) ∷ val (down (suc w) (signed x)) ∷ x ∷ ten-to (negℤ (pos w)) ∷ (ofℕ 1 ⊖ ten-to (negℤ (pos w))) ∷ [])
     (hyp (patom 0 *' patom 2) (patom 4 +' patom 3) (plit 1) ∷ hyp (plit 1) (patom 0 *' patom 2) (patom 0 *' patom 1 +' patom 2) ∷ hyp (patom 2) (plit 1) (patom 0 *' patom 3) ∷ [])
     (patom 0 *' (patom 2 *' patom 4)) (patom 0 *' patom 1) tt
-    (⊖-back (ofℕ 1) (ten-to (negℤ (pos w))) (part-small w)) (Down.down-near w x) (≈-ge (part-is w)))
+    (≈-le (⊖-back (part-small w))) (Down.down-near w x) (≈-ge (power-inverse w)))
 
 -- value(up x) ≤ x · (1 + 10^-w)
 pub up-within : (w : ℕ) (x : Fraction) → whole 0 ≤ᶠ x → value (up (suc w) x) ≤ᶠ x *ᶠ (whole 1 +ᶠ ten (negℤ (pos w)))
-up-within w x h = rw (signed-nonnegative x h) at (natural (nonnegative x))
+up-within w x h = rw (signed-nonnegative h) at (natural (nonnegative x))
   where
     e : ℤ
     e = negℤ (pos w)
@@ -121,13 +122,13 @@ up-within w x h = rw (signed-nonnegative x h) at (natural (nonnegative x))
 
 -- x · (1 - 10^-w) ≤ value(down x)
 pub down-within : (w : ℕ) (x : Fraction) → whole 0 ≤ᶠ x → x *ᶠ (whole 1 -ᶠ ten (negℤ (pos w))) ≤ᶠ value (down (suc w) x)
-down-within w x h = rw (signed-nonnegative x h) at (natural (nonnegative x))
+down-within w x h = rw (signed-nonnegative h) at (natural (nonnegative x))
   where
     e : ℤ
     e = negℤ (pos w)
 
     natural : (a : Ratio) → signed a *ᶠ (whole 1 -ᶠ ten e) ≤ᶠ value (down (suc w) (signed a))
-    natural a = rw (signed-⊗ a (ofℕ 1 ⊖ ten-to e), ← signed-⊖ (ofℕ 1) (ten-to e) (part-small w), signed-whole 1, signed-ten e) at (below-value _ (natural-down-within w a))
+    natural a = rw (signed-⊗ a (ofℕ 1 ⊖ ten-to e), signed-⊖ (part-small w), signed-whole 1, signed-ten e) at (below-value _ (natural-down-within w a))
 
 -- at nine digits and at eighteen
 

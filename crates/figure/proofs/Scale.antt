@@ -5,10 +5,10 @@ use mathlib.Core.Logic.{_⊎_, inl, inr, ⊎-elim}
 use Prim.Native.Nat.{ℕ, zero, suc, _+_, _*_, _-_, _^_, _≤_, _<_}
 use native.Mathlib.Nat.{mul-pos, one-le-pow, zero-lt-suc, pow-le-pow-right, pow-succ', lt-of-not-le, not-le-of-lt, le-of-suc-le-suc}
 use native.Mathlib.Omega.{arith, P, patom, plit}
-use lib.IntN.{ℤ, pos, negsuc, sucℤ, predℤ, negℤ, _+ℤ_, _-ℤ_, +ℤ-idl, +ℤ-sucℤ, sucℤ-+ℤ, +ℤ-comm, -ℤ-+ℤ-cancel, suc-pred, pred-suc, negℤ-negℤ, negℤ-+ℤ}
-use Rattle.fraction.proofs.Ratio.{Ratio, _≼_, _≈_, ofℕ, _⊗_, ≼-refl, ≼-trans, ≈-refl, ≈-sym, ≈-trans, ≈-le, ≈-ge, ⊗-mono, ⊗-cong, ⊗-comm, ⊗-assoc, ofℕ-≼, ofℕ-⊗, ofℕ-≤, ⊗-cancel, ≼-or}
+use lib.IntN.{ℤ, pos, negsuc, sucℤ, predℤ, negℤ, _+ℤ_, _-ℤ_, +ℤ-idl, +ℤ-sucℤ, sucℤ-+ℤ, +ℤ-comm, -ℤ-+ℤ-cancel, suc-pred, pred-suc, negℤ-negℤ, negℤ-+ℤ, +ℤ-invr}
+use Rattle.fraction.proofs.Ratio.{Ratio, _≼_, _≈_, ofℕ, _⊗_, ≼-refl, ≼-trans, ≈-refl, ≈-sym, ≈-trans, ≈-le, ≈-ge, ⊗-mono, ⊗-cong, ⊗-comm, ⊗-assoc, ofℕ-≼, ofℕ-⊗, ofℕ-≤, ofℕ-pos, ⊗-pos, ⊗-cancel, ≼-or}
 use Rattle.fraction.proofs.Certificate.{_*'_, same-value}
-use Rattle.fraction.proofs.PowersOfTen.{ten-to, ten-pos, ten-suc, ten-nat, ten-+, ten-≼}
+use Rattle.fraction.proofs.PowersOfTen.{ten-to, ten-pos, ten-suc, ten-zero, ten-nat, ten-+, ten-≼}
 
 pub pow-pos : (w : ℕ) → 0 < 10 ^ w
 pow-pos w = one-le-pow w 10 (zero-lt-suc 9)
@@ -36,16 +36,7 @@ unfolding _⊗_ ofℕ
 not-zero x e h p = omega (arith, p .le, mul-pos h ((ten-to e) .den-pos))
 
 pub multiple-pos : (d : ℕ) (e : ℤ) → 0 < d → 0 < (ofℕ d ⊗ ten-to e) .num
-unfolding _⊗_ ofℕ
-multiple-pos d e h = mul-pos h (ten-pos e)
-
--- what reaches more than nothing is more than nothing
-pub pos-above : {x y : Ratio} → x ≼ y → 0 < x .num → 0 < y .num
-pos-above {x} {y} h p = go (y .num) refl
-  where
-    go : (n : ℕ) → y .num ≡ n → 0 < n
-    go zero z = absurd (not-zero x (pos 0) p (≼-trans h (zero-below _ z)))
-    go (suc n) z = zero-lt-suc n
+multiple-pos d e h = ⊗-pos _ _ (ofℕ-pos h) (ten-pos e)
 
 -- ---- one power
 
@@ -95,3 +86,6 @@ ten-shift c k e = ≈-trans (⊗-cong (ofℕ-⊗ c (10 ^ k)) (≈-refl _)) (≈-
   where
     back : ofℕ (10 ^ k) ⊗ ten-to (e -ℤ pos k) ≈ ten-to e
     back = ≈-trans (⊗-comm _ _) (≈-trans (⊗-cong (≈-refl _) (≈-sym (ten-nat k))) (≈-trans (≈-sym (ten-+ (e -ℤ pos k) (pos k))) (rw -ℤ-+ℤ-cancel (≈-refl _))))
+
+pub power-inverse : (k : ℕ) → ofℕ (10 ^ k) ⊗ ten-to (negℤ (pos k)) ≈ ofℕ 1
+power-inverse k = ≈-trans (⊗-cong (≈-sym (ten-nat k)) (≈-refl _)) (≈-trans (≈-sym (ten-+ (pos k) (negℤ (pos k)))) (rw (+ℤ-invr (pos k)) ten-zero))

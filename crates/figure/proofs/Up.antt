@@ -11,14 +11,14 @@ use lib.Dec.{T, T-not, ltb, ltb→lt, nltb→le, eqb, eqb→eq, eqb-refl}
 use lib.Arith.{lt-of-le-ne}
 use lib.IntN.{ℤ, pos, negsuc, sucℤ, predℤ, _+ℤ_, +ℤ-idr, +ℤ-sucℤ, sucℤ-+ℤ, suc-pred, pred-suc, +ℤ-one}
 use Rattle.fraction.specs.Fraction.{Fraction, ten}
-use Rattle.fraction.proofs.Ratio.{Ratio, _≼_, _≈_, ofℕ, _⊗_, ≼-refl, ≼-trans, ≈-le, ≈-ge, ⊗-mono, ofℕ-≼, ofℕ-⊕, ⊗-zero, zero-≼}
+use Rattle.fraction.proofs.Ratio.{Ratio, _≼_, _≈_, ofℕ, _⊗_, ≼-refl, ≼-trans, ≈-le, ≈-ge, ⊗-mono, ofℕ-≼, ofℕ-⊕, ⊗-zero, zero-≼, pos-≼}
 use Rattle.fraction.proofs.Certificate.{_+'_, _*'_, prove, hyp}
 use Rattle.fraction.proofs.PowersOfTen.{ten-to, ten-pos}
 use Rattle.fraction.proofs.Multiples.{ceilDiv, ceilOver, over-reach, over-least}
 use Rattle.fraction.proofs.Signed.{signed}
 use Rattle.figure.specs.declared.Figure.{Figure}
 use Rattle.figure.specs.Rounding.{figure, none, IsFigure, is-zero, IsUp, dividend, divisor, ceiling, up-from, up}
-use Rattle.figure.proofs.Scale.{pow-pos, not-≼, zero-below, not-zero, multiple-pos, pos-above, ten-step, ten-step-down, multiple-≤, multiple-≼, Powers, same-power, lower, higher, powers, lower-≼, higher-≼}
+use Rattle.figure.proofs.Scale.{pow-pos, not-≼, zero-below, not-zero, multiple-pos, ten-step, ten-step-down, multiple-≤, multiple-≼, Powers, same-power, lower, higher, powers, lower-≼, higher-≼}
 use Rattle.figure.proofs.Digits.{start, start-high, start-not-low}
 use Rattle.figure.proofs.Value.{val, below-value, below-val, value-≼, val-≼, low-end, figure-of, Shape, empty, full, shape, figure-same}
 
@@ -155,7 +155,7 @@ unfolding Beyond
 round-up w x D e low reach least top = go (eqb D (10 * 10 ^ w)) (eqb→eq D (10 * 10 ^ w)) (λ t z. T-not (eqb D (10 * 10 ^ w)) t (rw z (eqb-refl (10 * 10 ^ w))))
   where
     pos-x : 0 < x .num
-    pos-x = pos-above low (multiple-pos (10 ^ w) e (pow-pos w))
+    pos-x = pos-≼ low (multiple-pos (10 ^ w) e (pow-pos w))
 
     go : (b : Bool) → (T b → D ≡ 10 * 10 ^ w) → (T (not b) → D ≡ 10 * 10 ^ w → ⊥) → elim b as (λ _. Figure) [ true ↦ figure (10 ^ w) (e +ℤ pos 1) | false ↦ figure D e ] ≡ up (suc w) (signed x)
     go true p q = rw +ℤ-one (tight-up w x (figure (10 ^ w) (sucℤ e)) pos-x (record {
