@@ -8,10 +8,11 @@ use native.Mathlib.Decide.{decLe}
 use lib.Arith.{le-zero}
 use lib.ListN.{length}
 use lib.Dec.{ltb, eqb}
-use borrow.Author.Tests.{lt-ltb, le-ltb, ltb-false, eqb-true, not-false}
+use borrow.Author.Tests.{lt-ltb, le-ltb, ltb-false, eqb-true, ne-eqb, not-false}
 use Rattle.model.specs.Model.{Net, Model, is-empty, exits}
-use Rattle.model.specs.Faults.{Fault, outside, differs}
-use Rattle.model.specs.Reading.{Answer, refused, granted, then, Reader, at-head, wrong, right, unless, read-from, uneven, lowest-uneven, Finding, model-findings, caller-findings, first-of, read}
+use Rattle.model.specs.Words.{kind, from-field, to-field}
+use Rattle.model.specs.Faults.{Fault, outside, differs, transition-faults, end-faults}
+use Rattle.model.specs.Reading.{Answer, refused, granted, then, Reader, at-head, at-rate, at-mean, after-end, wrong, right, unless, next-transition, next, read-from, uneven, lowest-uneven, Finding, model-findings, caller-findings, first-of, read}
 use Rattle.model.proofs.Valid.{Each}
 use Rattle.model.proofs.Members.{neither}
 
@@ -55,6 +56,36 @@ unless-right (f ∷ fs) r r′ e = go (f .holds) refl (unless-right fs r r′)
     go : (b : Bool) → f .holds ≡ b → (unless fs r ≡ right r′ → Each (λ f. f .holds ≡ false) fs × (r ≡ r′)) → Each (λ f. f .holds ≡ false) (f ∷ fs) × (r ≡ r′)
     go true h below = let z : _≡_ {A = ℕ} 0 1 = cc (unless-here f fs r h) in absurd (omega arith)
     go false h below = let (rest, same-reader) = below (sym (unless-past f fs r h) ∙ e) in ((h, rest), same-reader)
+
+-- ---- a word where a transition or the end may stand
+
+module _ (m : Model) (w : ℕ) where
+  pub next-slow : kind w ≡ 5 → next-transition m w ≡ unless (transition-faults false (m .states) (m .net .table) w) (at-rate m (from-field w) (to-field w))
+  unfolding next-transition
+  next-slow e = rw (e, next-transition)
+
+  pub next-fast : kind w ≡ 7 → next-transition m w ≡ unless (transition-faults true (m .states) (m .net .table) w) (at-mean m (from-field w) (to-field w))
+  unfolding next-transition
+  next-fast e = rw (e, next-transition) (rw e)
+
+  pub next-end : kind w ≡ 15 → next-transition m w ≡ unless (end-faults w) (after-end m)
+  unfolding next-transition
+  next-end e = rw (e, next-transition) (rw e (rw e))
+
+  pub next-other : (kind w ≡ 5 → ⊥) → (kind w ≡ 7 → ⊥) → (kind w ≡ 15 → ⊥) → next-transition m w ≡ wrong 3
+  unfolding next-transition
+  next-other p q r = rw (ne-eqb (kind w) 5 p, next-transition, ne-eqb (kind w) 7 q, ne-eqb (kind w) 15 r)
+
+-- ---- the word at a place
+
+module _ (r : Reader) (i w : ℕ) (ws : List ℕ) where
+  pub read-wrong : (n : ℕ) → next r w ≡ wrong n → read-from r i (w ∷ ws) ≡ refused n i
+  unfolding read-from
+  read-wrong n e = rw (e, read-from)
+
+  pub read-right : (r′ : Reader) → next r w ≡ right r′ → read-from r i (w ∷ ws) ≡ read-from r′ (suc i) ws
+  unfolding read-from
+  read-right r′ e = rw (e, read-from)
 
 -- ---- the first finding that holds
 

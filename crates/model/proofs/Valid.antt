@@ -18,7 +18,7 @@ pub record InRange (least most : ℕ) (q : Quantity) : Type 0 where
   pub high : q .coefficient ≤ 999999
   pub scale : q .scale ≤ most
 
-pub ValidManner : Manner → Type 0
+unfoldable pub ValidManner : Manner → Type 0
 ValidManner (slow r) = InRange 1 20 r
 ValidManner (fast m d q) = InRange 1 20 m × (InRange 0 20 d × InRange 1 12 q)
 
