@@ -1,0 +1,4 @@
+pub mod Folds
+pub mod Roundings
+pub mod Under
+pub mod Near
