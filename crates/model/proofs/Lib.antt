@@ -3,4 +3,4 @@ pub mod Members
 pub mod Exits
 pub mod Slots
 pub mod Refusals
-pub mod Accepted
+pub mod ReadValid
