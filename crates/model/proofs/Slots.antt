@@ -2,7 +2,7 @@
 -- index the arrays and the words by these facts and test nothing again. Assumes nothing.
 use Prim.Native.Nat.{ℕ, _+_, _*_, _≤_, _<_}
 use mathlib.Core.Path.{_≡_, refl, sym, ap, _∙_}
-use mathlib.Core.Bool.{Bool, true, false, not}
+use mathlib.Core.Bool.{Bool, true, false}
 use mathlib.Core.List.{List}
 use native.Mathlib.Nat.{add-zero}
 use native.Mathlib.Omega.{arith}
@@ -12,7 +12,6 @@ use lib.Dec.{eqb}
 use borrow.Author.Tests.{eq-eqb, ne-eqb, eqb-true, eqb-false}
 use Rattle.model.specs.Model.{Manner, slow, fast, Transition, Model, is-fast, exits}
 use Rattle.model.specs.Words.{kind, from-field, to-field, quantity}
-use Rattle.model.specs.Faults.{differs}
 use Rattle.model.specs.Index.{transition-at, word-count, Stands, no-transition, transition, Indexed}
 use Rattle.model.proofs.Valid.{ValidTransition, Valid}
 use Rattle.model.proofs.Members.{each-lookup}
@@ -20,14 +19,14 @@ use Rattle.model.proofs.Exits.{exits-leave, index-below, index-exit}
 
 -- ---- a transition that stands at a place
 
-slow-at : (ws : List ℕ) → eqb (kind (getD ws 0 0)) 5 ≡ true → (transition-at ws) .manner ≡ slow (quantity (getD ws 1 0))
-unfolding transition-at
-slow-at ws e = rw (e, transition-at)
-
-fast-at : (ws : List ℕ) → eqb (kind (getD ws 0 0)) 5 ≡ false
+fast-at : (ws : List ℕ) → eqb (kind (getD ws 0 0)) 7 ≡ true
     → (transition-at ws) .manner ≡ fast (quantity (getD ws 1 0)) (quantity (getD ws 2 0)) (quantity (getD ws 3 0))
 unfolding transition-at
 fast-at ws e = rw (e, transition-at)
+
+slow-at : (ws : List ℕ) → eqb (kind (getD ws 0 0)) 7 ≡ false → (transition-at ws) .manner ≡ slow (quantity (getD ws 1 0))
+unfolding transition-at
+slow-at ws e = rw (e, transition-at)
 
 module _ {ws : List ℕ} {place : ℕ} {t : Transition} (stands : Stands ws place t) where
   first : getD (drop place ws) 0 0 ≡ getD ws place 0
@@ -41,26 +40,26 @@ module _ {ws : List ℕ} {place : ℕ} {t : Transition} (stands : Stands ws plac
   unfolding transition-at
   stands-to = ap to-field (sym first) ∙ ap (λ (u : Transition). u .to) (stands .reads)
 
-  pub stands-slow-manner : kind (getD ws place 0) ≡ 5 → t .manner ≡ slow (quantity (getD ws (place + 1) 0))
-  stands-slow-manner e =
-      ap (λ (u : Transition). u .manner) (sym (stands .reads))
-      ∙ slow-at (drop place ws) (eq-eqb (kind (getD (drop place ws) 0 0)) 5 (ap kind first ∙ e))
-      ∙ rw getD-drop
-
-  pub stands-fast-manner : (kind (getD ws place 0) ≡ 5 → ⊥)
+  pub stands-fast-manner : kind (getD ws place 0) ≡ 7
       → t .manner ≡ fast (quantity (getD ws (place + 1) 0)) (quantity (getD ws (place + 2) 0)) (quantity (getD ws (place + 3) 0))
-  stands-fast-manner n =
+  stands-fast-manner e =
       ap (λ (u : Transition). u .manner) (sym (stands .reads))
-      ∙ fast-at (drop place ws) (ne-eqb (kind (getD (drop place ws) 0 0)) 5 (λ e. n (ap kind (sym first) ∙ e)))
+      ∙ fast-at (drop place ws) (eq-eqb (kind (getD (drop place ws) 0 0)) 7 (ap kind first ∙ e))
       ∙ rw (getD-drop place ws 1 0, getD-drop place ws 2 0, getD-drop place ws 3 0)
 
-  -- the transition is fast exactly if its word's kind is not 5
-  pub stands-fast : is-fast (t .manner) ≡ differs (kind (getD ws place 0)) 5
-  stands-fast = go (eqb (kind (getD ws place 0)) 5) refl
+  pub stands-slow-manner : (kind (getD ws place 0) ≡ 7 → ⊥) → t .manner ≡ slow (quantity (getD ws (place + 1) 0))
+  stands-slow-manner n =
+      ap (λ (u : Transition). u .manner) (sym (stands .reads))
+      ∙ slow-at (drop place ws) (ne-eqb (kind (getD (drop place ws) 0 0)) 7 (λ e. n (ap kind (sym first) ∙ e)))
+      ∙ rw getD-drop
+
+  -- the transition is fast exactly if its word's kind is 7
+  pub stands-fast : is-fast (t .manner) ≡ eqb (kind (getD ws place 0)) 7
+  stands-fast = go (eqb (kind (getD ws place 0)) 7) refl
     where
-      go : (b : Bool) → eqb (kind (getD ws place 0)) 5 ≡ b → is-fast (t .manner) ≡ differs (kind (getD ws place 0)) 5
-      go true e = ap is-fast (stands-slow-manner (eqb-true _ 5 e)) ∙ ap not (sym e)
-      go false e = ap is-fast (stands-fast-manner (eqb-false _ 5 e)) ∙ ap not (sym e)
+      go : (b : Bool) → eqb (kind (getD ws place 0)) 7 ≡ b → is-fast (t .manner) ≡ eqb (kind (getD ws place 0)) 7
+      go true e = ap is-fast (stands-fast-manner (eqb-true _ 7 e)) ∙ sym e
+      go false e = ap is-fast (stands-slow-manner (eqb-false _ 7 e)) ∙ sym e
 
   -- all its words are inside: two at least, and four if it is fast
   pub stands-inside : place + 1 < length ws
@@ -70,8 +69,8 @@ module _ {ws : List ℕ} {place : ℕ} {t : Transition} (stands : Stands ws plac
       go (slow r) h = omega arith
       go (fast a d q) h = omega arith
 
-  pub stands-inside-fast : (kind (getD ws place 0) ≡ 5 → ⊥) → place + 3 < length ws
-  stands-inside-fast n = let h : place + 4 ≤ length ws = rw (stands-fast-manner n) at (stands .inside) in omega arith
+  pub stands-inside-fast : kind (getD ws place 0) ≡ 7 → place + 3 < length ws
+  stands-inside-fast e = let h : place + 4 ≤ length ws = rw (stands-fast-manner e) at (stands .inside) in omega arith
 
 -- ---- from a state and a slot to an exit
 
@@ -131,5 +130,5 @@ module _ (m : Model) (ws slots counts places : List ℕ) (valid : Valid m) (inde
     pub slot-to-small : to-field (word ws places (slot slots s i)) ≤ 1000
     slot-to-small = omega (arith, slot-to-high, valid .states-high)
 
-    pub slot-fast : is-fast ((getD (exits (m .net) s) i no-transition) .manner) ≡ differs (kind (word ws places (slot slots s i))) 5
+    pub slot-fast : is-fast ((getD (exits (m .net) s) i no-transition) .manner) ≡ eqb (kind (word ws places (slot slots s i))) 7
     slot-fast = ap (λ (t : Transition). is-fast (t .manner)) (sym slot-exit) ∙ stands-fast slot-stands
