@@ -8,3 +8,5 @@ pub mod Rounding
 pub mod Operations
 pub mod Exact
 pub mod Reach
+pub mod Sized
+pub mod Gathered

@@ -130,7 +130,7 @@ low-end-above : {x : Ratio} (l : ℕ) → ofℕ 1 ⊗ ten-to (negℤ (pos l)) �
 low-end-above {x} l p = prove (ofℕ (10 ^ l) ∷ ten-to (negℤ (pos l)) ∷ x ∷ [])
     (hyp (patom 0) (plit 1 *' patom 1) (patom 2) ∷ hyp (plit 1) (plit 1) (patom 0 *' patom 1) ∷ []) (plit 1) (patom 0 *' patom 2) tt p (≈-ge (power-inverse l))
 
-none-not-pos : ¬ (0 < (val none) .num)
+pub none-not-pos : ¬ (0 < (val none) .num)
 unfolding ofℕ _⊗_
 none-not-pos z = omega (arith, z)
 
