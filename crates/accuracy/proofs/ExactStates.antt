@@ -1,11 +1,9 @@
--- The exact values of quantities and states, with natural numerators: a name that ends in ᴺ is the value of the definition of that name. The law
--- `sums-relate` carries a relation through a sum over exits. Assumes nothing.
+-- The exact values of quantities and states, with natural numerators: a name that ends in ᴺ is the value of the definition of that name.
+-- Assumes nothing.
 use mathlib.Core.Path.{_≡_, refl, sym, _∙_, ap}
-use mathlib.Core.Bool.{Bool, true, false}
-use mathlib.Core.List.{List, [], _∷_, foldl}
+use mathlib.Core.List.{List, [], _∷_}
 use Prim.Native.Nat.{ℕ, zero, suc, _+_, _*_, _^_, _≤_, _<_}
 use native.Mathlib.Omega.{arith, patom, plit}
-use lib.ListN.{length}
 use Rattle.fraction.specs.Fraction.{Fraction, whole, _+ᶠ_, _-ᶠ_, _*ᶠ_, _/ᶠ_}
 use Rattle.fraction.proofs.Ratio.{Ratio, _≼_, _≈_, ofℕ, _⊕_, _⊗_, _⊖_, ≼-refl, ≼-trans, ≈-refl, ≈-le, ≈-trans, ⊕-cong, ⊗-mono, ⊗-pos, ⊖-cap, ofℕ-≼, ofℕ-pos}
 use Rattle.fraction.proofs.Certificate.{_+'_, _*'_, same-value, prove, hyp}
@@ -13,13 +11,13 @@ use Rattle.fraction.proofs.Inverse.{inv, inv-is, over-pos, _over_}
 use Rattle.fraction.proofs.Powers.{pow}
 use Rattle.fraction.proofs.Signed.{signed, signed-ratio, signed-⊖, signed-whole}
 use Rattle.model.specs.declared.Quantity.{Quantity}
-use Rattle.model.specs.Model.{Manner, slow, fast, Transition, Net, is-fast, only, exits}
+use Rattle.model.specs.Model.{Manner, slow, fast, Transition, Net, exits}
 use Rattle.model.proofs.Valid.{Each, InRange}
-use Rattle.model.proofs.Members.{each-of-members, only-pass, only-fail}
-use Rattle.tree.specs.Paths.{one-if}
+use Rattle.model.proofs.Members.{each-of-members}
 use Rattle.tree.specs.States.{sum-over}
 use Rattle.tree.specs.Lower.{exact, remaining-time}
 use Rattle.accuracy.specs.States.{moment, add-exact-rate, add-exact-mean, add-exact-moment, exact-rate-sum, exact-mean, exact-moment-sum, exact-share}
+use Rattle.accuracy.proofs.Folds.{fold-count}
 use Rattle.accuracy.proofs.Natural.{_is_, is-≈, is-signed, is-whole, is-plus, is-product, is-quotient, is-power}
 
 -- ---- a quantity, the second moment, a share
@@ -72,27 +70,11 @@ meanᴺ net s = sum-over add-meanᴺ (ofℕ 0) (exits net s)
 unfoldable pub moment-sumᴺ : Net → ℕ → Ratio
 moment-sumᴺ net s = sum-over add-momentᴺ (ofℕ 0) (exits net s)
 
--- A relation R between two sums that grows by one for each exit that passes a test: if it holds of the starts, it holds of the sums.
-module _ {A B : Type 0} (R : ℕ → A → B → Type 0) (f : A → Manner → A) (g : B → Manner → B) (test : Transition → Bool) (Q : Transition → Type 0)
-    (step : (n : ℕ) (a : A) (b : B) (t : Transition) → Q t → R n a b → R (n + one-if (test t)) (f a (t .manner)) (g b (t .manner))) where
-  counted : (t : Transition) (ts : List Transition) → one-if (test t) + length (only test ts) ≡ length (only test (t ∷ ts))
-  counted t ts = go (test t) refl
-    where
-      go : (b : Bool) → test t ≡ b → one-if b + length (only test ts) ≡ length (only test (t ∷ ts))
-      go true e = rw (only-pass test t ts e) (omega arith)
-      go false e = rw (only-fail test t ts e) (omega arith)
-
-  pub sums-relate : (n : ℕ) (a : A) (b : B) (ts : List Transition) → Each Q ts → R n a b → R (n + length (only test ts)) (sum-over f a ts) (sum-over g b ts)
-  unfolding sum-over Each only
-  sums-relate n a b [] w h = let e : n + 0 ≡ n = omega arith in rw e h
-  sums-relate n a b (t ∷ ts) w h =
-      let e : n + one-if (test t) + length (only test ts) ≡ n + length (only test (t ∷ ts)) = omega (arith, counted t ts) in
-      rw e at (sums-relate (n + one-if (test t)) (f a (t .manner)) (g b (t .manner)) ts (w .1) (step n a b t (w .0) h))
-
--- hence of sums of natural terms
 sum-is : (f : Fraction → Manner → Fraction) (g : Ratio → Manner → Ratio) → ((a : Fraction) (b : Ratio) (x : Manner) → a is b → f a x is g b x)
     → (ts : List Transition) → sum-over f (whole 0) ts is sum-over g (ofℕ 0) ts
-sum-is f g step ts = sums-relate (λ _ a b. a is b) f g (λ _. true) (λ _. Unit {0}) (λ n a b t _ h. step a b (t .manner) h) 0 (whole 0) (ofℕ 0) ts (each-of-members (λ _. Unit {0}) ts (λ _ _. tt)) (is-whole 0)
+unfolding sum-over
+sum-is f g step ts = fold-count (λ _ a b. a is b) (λ _. Unit {0}) (λ a t. f a (t .manner)) (λ b t. g b (t .manner)) 0
+    (λ _ a b t _ _ h. step a b (t .manner) h) 0 ts (each-of-members (λ _. Unit {0}) ts (λ _ _. tt)) (omega arith) (is-whole 0)
 
 pub rate-sum-is : (net : Net) (s : ℕ) → exact-rate-sum net s is rate-sumᴺ net s
 unfolding exact-rate-sum rate-sumᴺ
