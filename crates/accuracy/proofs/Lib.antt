@@ -2,6 +2,8 @@ pub mod Folds
 pub mod Roundings
 pub mod Under
 pub mod Near
+pub mod Lacks
+pub mod Short
 pub mod Natural
 pub mod ExactStates
 pub mod ExactSteps

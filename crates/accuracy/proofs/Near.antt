@@ -1,12 +1,11 @@
 -- Figures that err upward, by a factor. Assumes nothing.
 use mathlib.Core.List.{List, foldl}
-use mathlib.Core.Path.{_≡_, refl}
 use Prim.Native.Nat.{ℕ, suc, _+_, _^_, _≤_, _<_, max}
 use native.Mathlib.Nat.{zero-lt-suc}
 use native.Mathlib.Omega.{arith}
 use lib.IntN.{pos}
 use lib.ListN.{length}
-use Rattle.fraction.proofs.Ratio.{Ratio, _≈_, ofℕ, _⊕_, _⊗_, ≈-refl, ≈-sym, ≈-trans, ⊗-cong, ⊗-zero, ofℕ-pos, pos-≼, ≈-ge}
+use Rattle.fraction.proofs.Ratio.{Ratio, _≈_, ofℕ, _⊕_, _⊗_, ≈-refl, ≈-sym, ≈-trans, ⊗-cong, ⊗-zero, ofℕ-pos}
 use Rattle.fraction.proofs.Inverse.{inv, _over_}
 use Rattle.fraction.proofs.PowersOfTen.{ten-to, ten-nat}
 use Rattle.fraction.proofs.Within.{Within, within-inv}
@@ -20,7 +19,7 @@ use Rattle.figure.proofs.Operations.{value-times, value-plus, value-divided}
 use Rattle.figure.proofs.Exact.{natural-times-ten, of-quantity-exact}
 use Rattle.accuracy.proofs.Roundings.{ρ, rounded-up, roundings-none, roundings-≤, roundings-≈, roundings-trans, roundings-⊗, roundings-scale, roundings-⊕}
 use Rattle.accuracy.proofs.Folds.{fold-count}
-use Rattle.accuracy.proofs.Under.{Under, under-exact, whole-is}
+use Rattle.accuracy.proofs.Under.{Under, under-exact, under-pos, whole-is}
 
 -- the figure f is x, or above it by at most n roundings; a record, so that n, f and x can be inferred
 pub record Near (n : ℕ) (f : Figure) (x : Ratio) : Type 0 where
@@ -56,16 +55,13 @@ near-plus {m} {n} {a} {b} p q = rw (value-plus a b) (near-up (max m n) (rounding
 
 -- ---- quotients: the divisor errs downward
 
-pub near-divided : {m n : ℕ} {a b : Figure} {x y : Ratio} → 0 < (val b) .num → 0 < y .num → Near m a x → Under n b y → Near (m + n + 1) (divided-up a b) (x ⊗ inv y)
+pub near-divided : {m n : ℕ} {a b : Figure} {x y : Ratio} → 0 < y .num → Near m a x → Under n b y → Near (m + n + 1) (divided-up a b) (x ⊗ inv y)
 unfolding divided-up
-near-divided {m} {n} {a} {b} h k p q = rw (value-divided a b) (near-up (m + n) (roundings-⊗ m n (p .within) (within-inv h k (q .within))))
+near-divided {m} {n} {a} {b} h p q = rw (value-divided a b) (near-up (m + n) (roundings-⊗ m n (p .within) (within-inv (under-pos h q) h (q .within))))
 
 -- by a whole number of at most nine digits
 pub near-by-whole : {n : ℕ} {a : Figure} {x : Ratio} (k : ℕ) → suc k < 10 ^ 9 → Near n a x → Near (n + 1) (divided-up a (of-whole (suc k))) (x ⊗ inv (ofℕ (suc k)))
-near-by-whole {n} k h p =
-    let e = whole-is (suc k) h in
-    let one : 0 < (ofℕ (suc k)) .num = ofℕ-pos (zero-lt-suc k) in
-    near-≤ (n + 1) (omega arith) (near-divided (pos-≼ (≈-ge e) one) one p (under-exact e))
+near-by-whole {n} k h p = near-≤ (n + 1) (omega arith) (near-divided (ofℕ-pos (zero-lt-suc k)) p (under-exact (whole-is (suc k) h)))
 
 -- ---- what is exact
 

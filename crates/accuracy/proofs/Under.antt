@@ -1,9 +1,10 @@
 -- Figures that err downward, by a factor. Assumes nothing.
 use mathlib.Core.List.{List, foldl}
-use Prim.Native.Nat.{ℕ, suc, _+_, _^_, _≤_, _<_, max}
+use Prim.Native.Nat.{ℕ, zero, suc, _+_, _*_, _^_, _≤_, _<_, max}
+use native.Mathlib.Nat.{zero-lt-suc}
 use native.Mathlib.Omega.{arith}
 use lib.ListN.{length}
-use Rattle.fraction.proofs.Ratio.{Ratio, _≈_, ofℕ, _⊕_, _⊗_, ≈-refl, ⊗-zero}
+use Rattle.fraction.proofs.Ratio.{Ratio, _≈_, ofℕ, _⊕_, _⊗_, ≈-refl, ⊗-zero, pos-≼}
 use Rattle.fraction.proofs.Within.{Within}
 use Rattle.fraction.proofs.Signed.{signed, signed-whole}
 use Rattle.model.proofs.Valid.{Each}
@@ -31,6 +32,18 @@ under-≤ {m} n h p = record { within = roundings-≤ m n h (p .within) }
 
 pub under-≈ : {n : ℕ} {f : Figure} {x y : Ratio} → x ≈ y → Under n f x → Under n f y
 under-≈ {n} e p = record { within = roundings-≈ n e (≈-refl _) (p .within) }
+
+factor-pos : (x y : Ratio) → 0 < (x ⊗ y) .num → 0 < x .num
+unfolding _⊗_
+factor-pos x y h = go (x .num) h
+  where
+    go : (n : ℕ) → 0 < n * y .num → 0 < n
+    go zero k = omega arith
+    go (suc n) k = zero-lt-suc n
+
+-- what is below a positive number by roundings is positive too
+pub under-pos : {n : ℕ} {f : Figure} {x : Ratio} → 0 < x .num → Under n f x → 0 < (val f) .num
+under-pos {n} {f} h p = factor-pos (val f) (ρ n) (pos-≼ (p .within .high) h)
 
 -- one rounding more
 pub under-down : (n : ℕ) {x̂ x : Ratio} → Within (ρ n) x x̂ → Under (n + 1) (down 9 (signed x̂)) x
