@@ -1,0 +1,96 @@
+-- The order of the tree's visits, "in table order, depth first", and that no path stands twice. Assumes nothing.
+use Prim.Native.Nat.{ℕ, zero, suc, _+_, _≤_, _<_}
+use mathlib.Core.Path.{_≡_, refl, sym, ap, _∙_}
+use mathlib.Core.Bool.{Bool, true, false}
+use mathlib.Core.List.{List, [], _∷_, _++_, flatMap, List·Memᴰ}
+use native.Mathlib.Omega.{arith}
+use lib.ListN.{length, getD, length-append}
+use lib.Seq.{append-snoc}
+use Rattle.model.specs.Model.{Transition, Net, Limits, Model, is-fast, only, leaves, exits-in, exits}
+use Rattle.model.proofs.Valid.{Each, SameTransition, Distinct, Valid}
+use Rattle.model.proofs.Members.{each-monotone, each-member, only-pass, only-fail, each-only}
+use Rattle.tree.specs.Paths.{Path, last-state}
+use Rattle.tree.specs.Tree.{outcome, is-continued, Visit, visits, tree}
+use Rattle.tree.proofs.Lists.{each-where, each-flatMap, InOrder, in-order-where, in-order-flatMap, in-order-lookup, Earlier, earlier-in-order, same-end}
+use Rattle.tree.proofs.Visits.{visit, visits-from, visits-more}
+
+-- q goes on from p by at least one step; the last step stands first
+pub record GoesOn (p q : Path) : Type 0 where
+  pub more : Path
+  pub some : 1 ≤ length more
+  pub is : q ≡ more ++ p
+
+-- The walk comes to p before q: q goes on from p ("depth first"), or the two part at a path b, where p takes an earlier exit than q ("in table
+-- order").
+pub data Before (net : Net) (p q : Path) : Type 0 where
+  goes-on : GoesOn p q → Before net p q
+  parts : (b r s : Path) (t u : Transition) → Earlier (exits net (last-state net b)) t u → p ≡ r ++ t ∷ b → q ≡ s ++ u ∷ b → Before net p q
+
+module _ (net : Net) (limits : Limits) where
+  longer : (t : Transition) (p : Path) {q : Path} → GoesOn (t ∷ p) q → GoesOn p q
+  longer t p g = record { more = g .more ++ (t ∷ []); some = omega (arith, length-append (g .more) (t ∷ [])); is = g .is ∙ sym (append-snoc (g .more) t p) }
+
+  -- every visit beyond a path goes on from it
+  beyond-goes-on : (n : ℕ) (p : Path) → Each (λ v. GoesOn p (v .path)) (visits net limits n p)
+  beyond-goes-on zero p = unfold visits Each in tt
+  beyond-goes-on (suc n) p = rw (visits-more net limits n p) (each-flatMap (λ t. visits-from net limits n (t ∷ p)) (λ v. GoesOn p (v .path)) (exits net (last-state net p)) (λ t k. here t (beyond-goes-on n (t ∷ p))))
+    where
+      here : (t : Transition) → Each (λ v. GoesOn (t ∷ p) (v .path)) (visits net limits n (t ∷ p)) → Each (λ v. GoesOn p (v .path)) (visits-from net limits n (t ∷ p))
+      here t below = unfold visits-from Each in (
+        record { more = t ∷ []; some = omega arith; is = refl },
+        each-where (λ v. GoesOn p (v .path)) (is-continued (outcome net limits (t ∷ p))) (visits net limits n (t ∷ p)) (λ e. each-monotone (λ v. GoesOn (t ∷ p) (v .path)) (λ v. GoesOn p (v .path)) (λ v. longer t p) (visits net limits n (t ∷ p)) below),
+      )
+
+  -- every visit from a path on is of a path that ends in it
+  from-ends : (n : ℕ) (p : Path) → Each (λ v. (r : Path) × (v .path ≡ r ++ p)) (visits-from net limits n p)
+  unfolding visits-from Each
+  from-ends n p = (([], refl), each-where (λ v. (r : Path) × (v .path ≡ r ++ p)) (is-continued (outcome net limits p)) (visits net limits n p) (λ e. each-monotone (λ v. GoesOn p (v .path)) (λ v. (r : Path) × (v .path ≡ r ++ p)) (λ v g. (g .more, g .is)) (visits net limits n p) (beyond-goes-on n p)))
+
+  abbrev earlier-visit : Visit → Visit → Type 0
+  earlier-visit v w = Before net (v .path) (w .path)
+
+  visits-in-order : (n : ℕ) (p : Path) → InOrder earlier-visit (visits net limits n p)
+  visits-in-order zero p = unfold visits InOrder in tt
+  visits-in-order (suc n) p =
+      rw (visits-more net limits n p) (in-order-flatMap (Earlier (exits net (last-state net p))) earlier-visit (λ t. visits-from net limits n (t ∷ p)) (λ t. here t (visits-in-order n (t ∷ p))) across (exits net (last-state net p)) (earlier-in-order (exits net (last-state net p))))
+    where
+      here : (t : Transition) → InOrder earlier-visit (visits net limits n (t ∷ p)) → InOrder earlier-visit (visits-from net limits n (t ∷ p))
+      here t below = unfold visits-from InOrder in (
+        each-where (earlier-visit (visit net limits (t ∷ p))) (is-continued (outcome net limits (t ∷ p))) (visits net limits n (t ∷ p)) (λ e. each-monotone (λ v. GoesOn (t ∷ p) (v .path)) (earlier-visit (visit net limits (t ∷ p))) (λ v. goes-on) (visits net limits n (t ∷ p)) (beyond-goes-on n (t ∷ p))),
+        in-order-where earlier-visit (is-continued (outcome net limits (t ∷ p))) (visits net limits n (t ∷ p)) below,
+      )
+
+      across : (t u : Transition) → Earlier (exits net (last-state net p)) t u → Each (λ v. Each (earlier-visit v) (visits-from net limits n (u ∷ p))) (visits-from net limits n (t ∷ p))
+      across t u h = each-monotone (λ v. (r : Path) × (v .path ≡ r ++ t ∷ p)) (λ v. Each (earlier-visit v) (visits-from net limits n (u ∷ p)))
+          (λ v x. each-monotone (λ w. (s : Path) × (w .path ≡ s ++ u ∷ p)) (earlier-visit v) (λ w y. parts p (x .0) (y .0) t u h (x .1) (y .1)) (visits-from net limits n (u ∷ p)) (from-ends n (u ∷ p)))
+          (visits-from net limits n (t ∷ p)) (from-ends n (t ∷ p))
+
+  -- the law of the order
+  pub tree-in-order : InOrder (λ v w. Before net (v .path) (w .path)) (tree net limits)
+  unfolding tree
+  tree-in-order = visits-in-order (limits .steps) []
+
+-- ---- no path stands twice, since a state's exits are distinct
+
+distinct-only : (test : Transition → Bool) (ts : List Transition) → Distinct ts → Distinct (only test ts)
+distinct-only test [] h = unfold only in h
+distinct-only test (t ∷ ts) h = go (test t) refl (unfold Distinct in h) (distinct-only test ts)
+  where
+    go : (b : Bool) → test t ≡ b → Each (λ u. SameTransition t u → ⊥) ts × Distinct ts → (Distinct ts → Distinct (only test ts)) → Distinct (only test (t ∷ ts))
+    go true e k below = rw (only-pass test t ts e) (unfold Distinct in (each-only test (λ u. SameTransition t u → ⊥) ts (k .0), below (k .1)))
+    go false e k below = rw (only-fail test t ts e) (below (k .1))
+
+-- two exits of one state, one earlier than the other, differ
+earlier-differs : (front : List Transition) {t u : Transition} {back : List Transition} → Distinct (front ++ t ∷ back) → List·Memᴰ u back → t ≡ u → ⊥
+unfolding Distinct
+earlier-differs [] {t} d k e = each-member (λ x. SameTransition t x → ⊥) k (d .0) (record { kind = ap (λ x. is-fast (x .manner)) e; from = ap (λ x. x .from) e; to = ap (λ x. x .to) e })
+earlier-differs (x ∷ front) d k e = earlier-differs front (d .1) k e
+
+before-differs : (net : Net) → ((s : ℕ) → Distinct (exits net s)) → {p q : Path} → Before net p q → p ≡ q → ⊥
+before-differs net d {p} (goes-on g) e = absurd (omega (arith, ap length (e ∙ g .is), length-append (g .more) p, g .some))
+before-differs net d (parts b r s t u h i j) e = earlier-differs (h .front) (rw (h .split) at (d (last-state net b))) (h .later) (same-end r s t u b (sym i ∙ e ∙ j))
+
+-- the law: two places of the tree's list hold two paths
+pub no-path-twice : (m : Model) → Valid m → (i j : ℕ) (d : Visit) → i < j → j < length (tree (m .net) (m .limits))
+    → (getD (tree (m .net) (m .limits)) i d) .path ≡ (getD (tree (m .net) (m .limits)) j d) .path → ⊥
+no-path-twice m valid i j d h k = before-differs (m .net) (λ s. unfold exits-in in distinct-only (leaves s) (m .net .table) (valid .distinct)) (in-order-lookup (λ v w. Before (m .net) (v .path) (w .path)) (tree (m .net) (m .limits)) d (tree-in-order (m .net) (m .limits)) i j h k)
