@@ -8,30 +8,17 @@ use native.Mathlib.Nat.{le-trans, zero-lt-suc, lt-irrefl, not-le-of-lt, le-of-lt
 use native.Mathlib.Omega.{arith, P, patom, plit}
 use lib.Dec.{T, ltb, ltb→lt, nltb→le}
 use lib.IntN.{ℤ, pos, negsuc, sucℤ, _+ℤ_}
-use Rattle.fraction.specs.Fraction.{Fraction, ten}
+use Rattle.fraction.specs.Fraction.{Fraction}
 use Rattle.fraction.proofs.Ratio.{Ratio, _≼_, _≈_, ofℕ, _⊕_, _⊗_, ≼-refl, ≼-trans, ≈-le, ≈-ge, ⊗-mono, ⊗-comm, ofℕ-≼, ofℕ-⊕, ⊗-zero, zero-≼}
 use Rattle.fraction.proofs.Certificate.{_+'_, _*'_, prove, hyp}
 use Rattle.fraction.proofs.PowersOfTen.{ten-to, ten-pos}
-use Rattle.fraction.proofs.Multiples.{floorOver, under-reach, under-greatest}
 use Rattle.fraction.proofs.Signed.{signed}
 use Rattle.figure.specs.declared.Figure.{Figure}
-use Rattle.figure.specs.Rounding.{figure, none, IsFigure, is-zero, IsDown, dividend, divisor, floor, down-from, down}
+use Rattle.figure.specs.Rounding.{figure, none, IsFigure, is-zero, IsDown, floor, down-from, down}
 use Rattle.figure.proofs.Scale.{pow-pos, not-≼, zero-below, multiple-pos, ten-step, multiple-≼, Powers, same-power, lower, higher, powers, higher-≼}
+use Rattle.figure.proofs.Counts.{floor-reach, floor-greatest}
 use Rattle.figure.proofs.Digits.{start, start-low, start-not-high}
 use Rattle.figure.proofs.Value.{val, above-value, above-val, value-≼, val-≼, low-end, figure-of, Shape, empty, full, shape, figure-same}
-
--- ---- the floor is the greatest number of times that does not pass x
-
-floor-is : (x : Ratio) (e : ℤ) → floor (signed x) e ≡ floorOver x (ten-to e)
-unfolding floor dividend divisor signed ten ten-to floorOver
-floor-is x (pos k) = refl
-floor-is x (negsuc k) = refl
-
-pub floor-reach : (x : Ratio) (e : ℤ) → ofℕ (floor (signed x) e) ⊗ ten-to e ≼ x
-floor-reach x e = rw (floor-is x e) (under-reach x (ten-to e))
-
-pub floor-greatest : (x : Ratio) (e : ℤ) (c : ℕ) → ofℕ c ⊗ ten-to e ≼ x → c ≤ floor (signed x) e
-floor-greatest x e c h = rw (floor-is x e) (under-greatest x (ten-to e) c (ten-pos e) h)
 
 -- ---- a figure is the greatest not above x, said of its digits and its power
 

@@ -1,6 +1,7 @@
 pub mod Nonnegative
 pub mod Scale
 pub mod Digits
+pub mod Counts
 pub mod Value
 pub mod Up
 pub mod Down

@@ -10,30 +10,17 @@ use native.Mathlib.Omega.{arith, by-contra, P, patom, plit}
 use lib.Dec.{T, T-not, ltb, ltb→lt, nltb→le, eqb, eqb→eq, eqb-refl}
 use lib.Arith.{lt-of-le-ne}
 use lib.IntN.{ℤ, pos, negsuc, sucℤ, predℤ, _+ℤ_, +ℤ-idr, +ℤ-sucℤ, sucℤ-+ℤ, suc-pred, pred-suc, +ℤ-one}
-use Rattle.fraction.specs.Fraction.{Fraction, ten}
+use Rattle.fraction.specs.Fraction.{Fraction}
 use Rattle.fraction.proofs.Ratio.{Ratio, _≼_, _≈_, ofℕ, _⊗_, ≼-refl, ≼-trans, ≈-le, ≈-ge, ⊗-mono, ofℕ-≼, ofℕ-⊕, ⊗-zero, zero-≼, pos-≼}
 use Rattle.fraction.proofs.Certificate.{_+'_, _*'_, prove, hyp}
 use Rattle.fraction.proofs.PowersOfTen.{ten-to, ten-pos}
-use Rattle.fraction.proofs.Multiples.{ceilDiv, ceilOver, over-reach, over-least}
 use Rattle.fraction.proofs.Signed.{signed}
 use Rattle.figure.specs.declared.Figure.{Figure}
-use Rattle.figure.specs.Rounding.{figure, none, IsFigure, is-zero, IsUp, dividend, divisor, ceiling, up-from, up}
+use Rattle.figure.specs.Rounding.{figure, none, IsFigure, is-zero, IsUp, ceiling, up-from, up}
 use Rattle.figure.proofs.Scale.{pow-pos, not-≼, zero-below, not-zero, multiple-pos, ten-step, ten-step-down, multiple-≤, multiple-≼, Powers, same-power, lower, higher, powers, lower-≼, higher-≼}
+use Rattle.figure.proofs.Counts.{ceiling-reach, ceiling-least}
 use Rattle.figure.proofs.Digits.{start, start-high, start-not-low}
 use Rattle.figure.proofs.Value.{val, below-value, below-val, value-≼, val-≼, low-end, figure-of, Shape, empty, full, shape, figure-same}
-
--- ---- the ceiling is the least number of times that reaches x
-
-ceiling-is : (x : Ratio) (e : ℤ) → ceiling (signed x) e ≡ ceilOver x (ten-to e)
-unfolding ceiling dividend divisor signed ten ten-to ceilOver ceilDiv
-ceiling-is x (pos k) = refl
-ceiling-is x (negsuc k) = refl
-
-pub ceiling-reach : (x : Ratio) (e : ℤ) → x ≼ ofℕ (ceiling (signed x) e) ⊗ ten-to e
-ceiling-reach x e = rw (ceiling-is x e) (over-reach x (ten-to e) (ten-pos e))
-
-pub ceiling-least : (x : Ratio) (e : ℤ) (c : ℕ) → x ≼ ofℕ c ⊗ ten-to e → ceiling (signed x) e ≤ c
-ceiling-least x e c h = rw (ceiling-is x e) (over-least x (ten-to e) c (ten-pos e) h)
 
 -- ---- a figure is the least not below x, said of its digits and its power
 
