@@ -4,3 +4,4 @@ pub mod Exits
 pub mod Slots
 pub mod Refusals
 pub mod ReadValid
+pub mod FirstFault

@@ -1,4 +1,5 @@
 // The word table of a model: its reading, with refusals 1 to 11, and the index of its exits.
+mod faults;
 pub mod words;
 
 // A quantity of the table: coefficient / 10^scale.
@@ -32,6 +33,7 @@ pub struct Accepted {
     pub entries: u8,
     pub time: Quantity,
     pub prune: Quantity,
+    // FROM THE LEAD (remove this line): please add `pub transitions: usize`, the number of transitions (≡ length of the table), which the walk's tables need.
 }
 
 pub enum Reading {

@@ -1,0 +1,25 @@
+-- `model::faults::end` meets its contract. Assumes nothing.
+use mathlib.Core.Path.{sym, _∙_}
+use Rattle.model.proofs.FirstFault.{here, later, none-left, no-word, a-word, differs-true, differs-false}
+use borrow.Author.Needs.{needs}
+use Rattle.model.proofs.faults.end.Statement.{statement}
+use Rattle.model.proofs.faults.end.Tie as tie
+
+returns : tie.Need-returns
+returns c = sym (no-word _ _ _ (c .if1 .taken))
+
+shared-slice-read-end-rest : tie.Need-shared-slice-read-end-rest
+shared-slice-read-end-rest c = search needs
+
+end-rest-requires : tie.Need-end-rest-requires
+end-rest-requires c κs = search needs
+
+returns-2 : tie.Need-returns-2
+returns-2 c = sym (a-word _ _ _ (c .before .before .before .if1 .left) ∙ here _ _ _ (differs-true (c .before .end-rest .ensures) (c .if2 .taken)))
+
+returns-3 : tie.Need-returns-3
+returns-3 c = sym (a-word _ _ _ (c .before .before .before .if1 .left) ∙ later _ _ _ (differs-false (c .before .end-rest .ensures) (c .if2 .left)) ∙ none-left _)
+
+pub end-spec : {M : Type 1} → statement M
+end-spec =
+    tie.close (tie.spec returns shared-slice-read-end-rest end-rest-requires returns-2 returns-3)

@@ -1,0 +1,64 @@
+-- `model::faults::head` meets its contract: each return says the first fault that holds. Assumes nothing.
+use mathlib.Core.Path.{sym, ap, ap₂, _∙_}
+use Rattle.model.specs.Faults.{outside}
+use Rattle.model.proofs.FirstFault.{here, later, none-left, no-word, a-word, differs-true, differs-false}
+use borrow.Author.Needs.{needs}
+use Rattle.model.proofs.faults.head.Statement.{statement}
+use Rattle.model.proofs.faults.head.Tie as tie
+
+returns : tie.Need-returns
+returns c = sym (no-word _ _ _ (c .if1 .taken))
+
+shared-slice-read-w : tie.Need-shared-slice-read-w
+shared-slice-read-w c = search needs
+
+kind-requires : tie.Need-kind-requires
+kind-requires c κs = search needs
+
+returns-2 : tie.Need-returns-2
+returns-2 c = sym (a-word _ _ _ (c .before .before .before .if1 .left) ∙ here _ _ _ (differs-true (c .before .kind .ensures) (c .if2 .taken)))
+
+edition-requires : tie.Need-edition-requires
+edition-requires c κs = search needs
+
+returns-3 : tie.Need-returns-3
+returns-3 c = sym (a-word _ _ _ (c .before .before .before .before .before .if1 .left) ∙ later _ _ _ (differs-false (c .before .before .before .kind .ensures) (c .before .before .if2 .left)) ∙ here _ _ _ (differs-true (c .before .edition .ensures) (c .if3 .taken)))
+
+origin-requires : tie.Need-origin-requires
+origin-requires c κs = search needs
+
+outside-requires : tie.Need-outside-requires
+outside-requires c κs = search needs
+
+returns-4 : tie.Need-returns-4
+returns-4 c = sym (a-word _ _ _ (c .before .before .before .before .before .before .before .before .if1 .left) ∙ later _ _ _ (differs-false (c .before .before .before .before .before .before .kind .ensures) (c .before .before .before .before .before .if2 .left)) ∙ later _ _ _ (differs-false (c .before .before .before .before .edition .ensures) (c .before .before .before .if3 .left)) ∙ here _ _ _ (sym (c .before .outside .ensures ∙ ap (outside 1 1000) (c .before .before .origin .ensures .0)) ∙ c .if4 .taken))
+
+target-requires : tie.Need-target-requires
+target-requires c κs = search needs
+
+outside-requires-2 : tie.Need-outside-requires-2
+outside-requires-2 c κs = search needs
+
+returns-5 : tie.Need-returns-5
+returns-5 c = sym (a-word _ _ _ (c .before .before .before .before .before .before .before .before .before .before .before .if1 .left) ∙ later _ _ _ (differs-false (c .before .before .before .before .before .before .before .before .before .kind .ensures) (c .before .before .before .before .before .before .before .before .if2 .left)) ∙ later _ _ _ (differs-false (c .before .before .before .before .before .before .before .edition .ensures) (c .before .before .before .before .before .before .if3 .left)) ∙ later _ _ _ (sym (c .before .before .before .before .outside .ensures ∙ ap (outside 1 1000) (c .before .before .before .before .before .origin .ensures .0)) ∙ c .before .before .before .if4 .left) ∙ here _ _ _ (sym (c .before .outside2 .ensures ∙ ap₂ (outside 1) (c .before .before .before .before .before .origin .ensures .0) (c .before .before .target .ensures .0)) ∙ c .if5 .taken))
+
+returns-6 : tie.Need-returns-6
+returns-6 c = sym (a-word _ _ _ (c .before .before .before .before .before .before .before .before .before .before .before .if1 .left) ∙ later _ _ _ (differs-false (c .before .before .before .before .before .before .before .before .before .kind .ensures) (c .before .before .before .before .before .before .before .before .if2 .left)) ∙ later _ _ _ (differs-false (c .before .before .before .before .before .before .before .edition .ensures) (c .before .before .before .before .before .before .if3 .left)) ∙ later _ _ _ (sym (c .before .before .before .before .outside .ensures ∙ ap (outside 1 1000) (c .before .before .before .before .before .origin .ensures .0)) ∙ c .before .before .before .if4 .left) ∙ later _ _ _ (sym (c .before .outside2 .ensures ∙ ap₂ (outside 1) (c .before .before .before .before .before .origin .ensures .0) (c .before .before .target .ensures .0)) ∙ c .if5 .left) ∙ none-left _)
+
+pub head-spec : {M : Type 1} → statement M
+head-spec =
+    tie.close
+    (tie.spec
+    returns
+    shared-slice-read-w
+    kind-requires
+    returns-2
+    edition-requires
+    returns-3
+    origin-requires
+    outside-requires
+    returns-4
+    target-requires
+    outside-requires-2
+    returns-5
+    returns-6)

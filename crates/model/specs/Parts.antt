@@ -1,0 +1,58 @@
+-- What the functions below the code's `read` promise one another, in the terms of Reading and Faults. No other crate sees these functions, and
+-- `read`'s own promise, in Refusal, names nothing of this file. Assumes nothing: these are definitions.
+use Prim.Native.Nat.{ℕ, zero, suc, _+_, _*_, _≤_, _<_}
+use mathlib.Core.Path.{_≡_}
+use mathlib.Core.Bool.{Bool, true, false, not, _&&_, _||_}
+use mathlib.Core.Logic.{_⊎_}
+use mathlib.Core.List.{List, [], _∷_}
+use lib.ListN.{length, getD, drop}
+use lib.Dec.{leb, ltb, eqb}
+use Rattle.model.specs.declared.Refusal.{Refusal}
+use Rattle.model.specs.declared.Accepted.{Accepted}
+use Rattle.model.specs.declared.Verdict.{Verdict}
+use Rattle.model.specs.declared.Verdict.the-variants.{Fine, Refused as refusal}
+use Rattle.model.specs.Model.{Transition, Net, Limits, Model, any, exits, has-fast, probability-sum}
+use Rattle.model.specs.Words.{kind, from-field, to-field, transition-rest, end-rest}
+use Rattle.model.specs.Faults.{Fault, _gives_, outside, differs, head-faults, quantity-faults, caps-faults, end-faults}
+use Rattle.model.specs.Reading.{Answer, refused, granted, then, Reader, at-head, at-transition, read-from, lowest-uneven}
+use Rattle.model.specs.Index.{transition-at, Indexed}
+use Rattle.model.specs.Refusal.{number, place, summary}
+
+-- ---- tests of words
+
+-- a verdict as an answer
+abbrev pub answer : Verdict → Answer (Unit {0})
+answer Fine = granted tt
+answer (refusal f) = refused (number f) (place f)
+
+-- the first fault of the word at place i that holds
+unfoldable pub first-fault : List Fault → ℕ → Answer (Unit {0})
+first-fault [] i = granted tt
+first-fault (f ∷ fs) i = elim (f .holds) [ true ↦ refused (f .number) i | false ↦ first-fault fs i ]
+
+-- the same for the first word of the part that begins at place i; one that is missing is a fault too
+unfoldable pub word-answer : (ℕ → List Fault) → ℕ → List ℕ → Answer (Unit {0})
+word-answer faults i [] = refused 3 i
+word-answer faults i (w ∷ ws) = first-fault (faults w) i
+
+-- the same for one word after the other
+unfoldable pub words-answer : List (ℕ → List Fault) → ℕ → List ℕ → Answer (Unit {0})
+words-answer [] i ws = granted tt
+words-answer (faults ∷ rest) i ws = then (word-answer faults i ws) (λ _. words-answer rest (suc i) (drop 1 ws))
+
+-- the first four words
+abbrev pub opening-faults : List (ℕ → List Fault)
+opening-faults = head-faults ∷ quantity-faults 2 20 1 ∷ quantity-faults 3 20 0 ∷ caps-faults ∷ []
+
+-- the words that follow a transition's own: the rate; or mean, deviation and probability
+abbrev pub body-faults : Bool → List (ℕ → List Fault)
+body-faults false = quantity-faults 6 20 1 ∷ []
+body-faults true = quantity-faults 8 20 1 ∷ quantity-faults 9 20 0 ∷ quantity-faults 10 12 1 ∷ []
+
+-- tests 4, 6 and 7 of a transition's word, which need no index
+abbrev pub field-faults : ℕ → ℕ → List Fault
+field-faults states w =
+    (differs (transition-rest w) 0 gives 4)
+    ∷ (outside 1 states (from-field w) || outside 1 states (to-field w) gives 6)
+    ∷ (eqb (from-field w) (to-field w) gives 7)
+    ∷ []
