@@ -3,5 +3,6 @@ pub mod Members
 pub mod Exits
 pub mod Slots
 pub mod Refusals
+pub mod Growing
 pub mod ReadValid
 pub mod FirstFault

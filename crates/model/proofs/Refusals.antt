@@ -33,6 +33,14 @@ above-test least most n high = rw (lt-ltb most n high, or-true)
 pub differs-false : (a b : ℕ) → differs a b ≡ false → a ≡ b
 differs-false a b e = eqb-true a b (not-false (eqb a b) e)
 
+-- ---- a refusal is no model
+
+pub refused-not-granted : {A : Type 0} {number place : ℕ} {a : A} → _≡_ {A = Answer A} (refused number place) (granted a) → ⊥
+refused-not-granted e = let z : _≡_ {A = ℕ} 0 1 = cc in omega arith
+
+pub wrong-not-right : {number : ℕ} {r : Reader} → wrong number ≡ right r → ⊥
+wrong-not-right e = let z : _≡_ {A = ℕ} 0 1 = cc in omega arith
+
 -- ---- the first fault that holds
 
 pub unless-here : (f : Fault) (fs : List Fault) (r : Reader) → f .holds ≡ true → unless (f ∷ fs) r ≡ wrong (f .number)
@@ -53,18 +61,21 @@ unfolding unless Each
 unless-right [] r r′ e = (tt, cc)
 unless-right (f ∷ fs) r r′ e = go (f .holds) refl (unless-right fs r r′)
   where
-    go : (b : Bool) → f .holds ≡ b → (unless fs r ≡ right r′ → Each (λ f. f .holds ≡ false) fs × (r ≡ r′)) → Each (λ f. f .holds ≡ false) (f ∷ fs) × (r ≡ r′)
-    go true h below = let z : _≡_ {A = ℕ} 0 1 = cc (unless-here f fs r h) in absurd (omega arith)
+    go : (b : Bool) → f .holds ≡ b → (unless fs r ≡ right r′ → Each (λ f. f .holds ≡ false) fs × (r ≡ r′))
+        → Each (λ f. f .holds ≡ false) (f ∷ fs) × (r ≡ r′)
+    go true h below = absurd (wrong-not-right (sym (unless-here f fs r h) ∙ e))
     go false h below = let (rest, same-reader) = below (sym (unless-past f fs r h) ∙ e) in ((h, rest), same-reader)
 
 -- ---- a word where a transition or the end may stand
 
 module _ (m : Model) (w : ℕ) where
-  pub next-slow : kind w ≡ 5 → next-transition m w ≡ unless (transition-faults false (m .states) (m .net .table) w) (at-rate m (from-field w) (to-field w))
+  pub next-slow : kind w ≡ 5
+      → next-transition m w ≡ unless (transition-faults false (m .states) (m .net .table) w) (at-rate m (from-field w) (to-field w))
   unfolding next-transition
   next-slow e = rw (e, next-transition)
 
-  pub next-fast : kind w ≡ 7 → next-transition m w ≡ unless (transition-faults true (m .states) (m .net .table) w) (at-mean m (from-field w) (to-field w))
+  pub next-fast : kind w ≡ 7
+      → next-transition m w ≡ unless (transition-faults true (m .states) (m .net .table) w) (at-mean m (from-field w) (to-field w))
   unfolding next-transition
   next-fast e = rw (e, next-transition) (rw e)
 
@@ -108,8 +119,9 @@ module _ {A : Type 0} where
   first-granted [] a b e = (tt, cc)
   first-granted (f ∷ fs) a b e = go (f .fault .holds) refl (first-granted fs a b)
     where
-      go : (t : Bool) → f .fault .holds ≡ t → (first-of fs a ≡ granted b → Each (λ f. f .fault .holds ≡ false) fs × (a ≡ b)) → Each (λ f. f .fault .holds ≡ false) (f ∷ fs) × (a ≡ b)
-      go true h below = let z : _≡_ {A = ℕ} 0 1 = cc (first-here f fs a h) in absurd (omega arith)
+      go : (t : Bool) → f .fault .holds ≡ t → (first-of fs a ≡ granted b → Each (λ f. f .fault .holds ≡ false) fs × (a ≡ b))
+          → Each (λ f. f .fault .holds ≡ false) (f ∷ fs) × (a ≡ b)
+      go true h below = absurd (refused-not-granted (sym (first-here f fs a h) ∙ e))
       go false h below = let (rest, same-value) = below (sym (first-past f fs a h) ∙ e) in ((h, rest), same-value)
 
 -- ---- the lowest uneven state
@@ -137,7 +149,9 @@ module _ (net : Net) where
   lowest-none zero s h z k low high = absurd (omega arith)
   lowest-none (suc n) s h z k low high = go (uneven net s) refl (decLe (suc s) k) (lowest-none n (suc s) (omega arith))
     where
-      go : (b : Bool) → uneven net s ≡ b → Dec (suc s ≤ k) → (lowest-uneven net n (suc s) ≡ 0 → (j : ℕ) → suc s ≤ j → j < suc s + n → uneven net j ≡ false) → uneven net k ≡ false
+      go : (b : Bool) → uneven net s ≡ b → Dec (suc s ≤ k)
+          → (lowest-uneven net n (suc s) ≡ 0 → (j : ℕ) → suc s ≤ j → j < suc s + n → uneven net j ≡ false)
+          → uneven net k ≡ false
       go true e d below = absurd (omega (arith, lowest-here n s e))
       go false e (yes above) below = below (sym (lowest-later n s e) ∙ z) k above (omega arith)
       go false e (no here) below = let q : k ≡ s = omega arith in rw q e
@@ -207,7 +221,7 @@ pub record Granted (ws : List ℕ) (budget : ℕ) (m : Model) : Type 0 where
 
 then-granted : {A B : Type 0} (x : Answer A) (f : A → Answer B) (b : B) → then x f ≡ granted b → (a : A) × (x ≡ granted a) × (f a ≡ granted b)
 unfolding then
-then-granted (refused number place) f b e = let z : _≡_ {A = ℕ} 0 1 = cc in absurd (omega arith)
+then-granted (refused number place) f b e = absurd (refused-not-granted e)
 then-granted (granted a) f b e = (a, refl, e)
 
 pub read-granted : (ws : List ℕ) (budget : ℕ) (m : Model) → read ws budget ≡ granted m → Granted ws budget m
@@ -219,8 +233,8 @@ read-granted ws budget m e =
     let model = first-granted (model-findings m′) m′ m last in
     from-tests ws′ m′ (caller .0) (caller .1) reads (model .0) (model .1)
   where
-    from-tests : (ws′ : List ℕ) (m′ : Model) → Each (λ f. f .fault .holds ≡ false) (caller-findings ws budget) → ws ≡ ws′ → read-from at-head 0 ws′ ≡ granted m′
-        → Each (λ f. f .fault .holds ≡ false) (model-findings m′) → m′ ≡ m → Granted ws budget m
+    from-tests : (ws′ : List ℕ) (m′ : Model) → Each (λ f. f .fault .holds ≡ false) (caller-findings ws budget) → ws ≡ ws′
+        → read-from at-head 0 ws′ ≡ granted m′ → Each (λ f. f .fault .holds ≡ false) (model-findings m′) → m′ ≡ m → Granted ws budget m
     from-tests ws′ m′ caller same-words reads model same-model = unfold Each in
         let budget-in = inside 1 1000000 budget (caller .1 .0) in
         let tests = rw same-model at model in
