@@ -1,6 +1,6 @@
 -- The floor and the ceiling of x over 10^e: the greatest number of times that does not pass x, and the least that reaches it. Assumes nothing.
 use mathlib.Core.Path.{_≡_, refl}
-use Prim.Native.Nat.{ℕ, suc, _+_, _*_, _-_, _/_, _≤_, _<_}
+use Prim.Native.Nat.{ℕ, _+_, _*_, _-_, _≤_, _<_}
 use native.Mathlib.Nat.{mul-pos, le-div-iff-mul-le, div-mul-le-self, div-lt-iff-lt-mul, lt-div-mul-add, le-of-suc-le-suc}
 use native.Mathlib.Omega.{arith}
 use lib.IntN.{ℤ, pos, negsuc}
@@ -56,7 +56,8 @@ module _ (x : Ratio) (e : ℤ) where
 
   pub ceiling-reach : x ≼ ofℕ (ceiling (signed x) e) ⊗ ten-to e
   unfolding ceiling
-  ceiling-reach = counts-reach (ceiling (signed x) e) (omega (arith, lt-div-mul-add {a = dividend (signed x) e + (divisor (signed x) e - 1)} divisor-pos, divisor-pos))
+  ceiling-reach = counts-reach (ceiling (signed x) e)
+      (omega (arith, lt-div-mul-add {a = dividend (signed x) e + (divisor (signed x) e - 1)} divisor-pos, divisor-pos))
 
   -- ---- the floor
 

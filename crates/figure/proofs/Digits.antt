@@ -1,12 +1,12 @@
 -- The number of decimal digits, and the power of ten at which a rounding to w + 1 digits begins. Assumes nothing.
-use mathlib.Core.Path.{_≡_, refl, sym, _∙_, ap}
+use mathlib.Core.Path.{_≡_}
 use mathlib.Core.Bool.{Bool, true, false, not}
-use Prim.Native.Nat.{ℕ, zero, suc, _+_, _*_, _-_, _^_, _≤_, _<_}
+use Prim.Native.Nat.{ℕ, zero, suc, _+_, _*_, _^_, _≤_, _<_}
 use native.Mathlib.Nat.{pow-succ', mul-pos, zero-lt-suc, mul-le-mul-left, mul-le-mul-right, mul-le-mul, le-of-lt, le-of-mul-le-mul-left}
 use native.Mathlib.Omega.{arith}
 use lib.Dec.{T, ltb, ltb→lt, nltb→le}
 use lib.Pow.{pow-add}
-use lib.IntN.{ℤ, pos, sucℤ, predℤ, subℕ, suc-pred}
+use lib.IntN.{ℤ, sucℤ, predℤ, suc-pred}
 use Rattle.fraction.proofs.Ratio.{Ratio, _≼_, _≈_, ofℕ, _⊗_, ≈-refl, ≈-sym, ≈-trans, ⊗-cong, ⊗-comm, ⊗-assoc, ofℕ-⊗}
 use Rattle.fraction.proofs.PowersOfTen.{ten-to, ten-suc, ten-sub}
 use Rattle.fraction.proofs.Multiples.{at-scale, from-scale, at-scale-ge, from-scale-ge}
@@ -25,7 +25,8 @@ unfolding digits-from
 from-above zero j n h = let e : j + 0 ≡ j = omega arith in rw e at h
 from-above (suc k) j n h = go (ltb n (10 ^ j)) (ltb→lt n (10 ^ j)) (from-above k (suc j) n (let e : j + suc k ≡ suc j + k = omega arith in rw e at h))
   where
-    go : (b : Bool) → (T b → n < 10 ^ j) → n < 10 ^ digits-from k (suc j) n → n < 10 ^ (elim b as (λ _. ℕ) [ true ↦ j | false ↦ digits-from k (suc j) n ])
+    go : (b : Bool) → (T b → n < 10 ^ j) → n < 10 ^ digits-from k (suc j) n
+        → n < 10 ^ (elim b as (λ _. ℕ) [ true ↦ j | false ↦ digits-from k (suc j) n ])
     go true p q = p tt
     go false p q = q
 
@@ -34,7 +35,8 @@ unfolding digits-from
 from-below zero j n h = h
 from-below (suc k) j n h = go (ltb n (10 ^ j)) (nltb→le n (10 ^ j)) (λ p. from-below k (suc j) n (omega (arith, p, pow-succ' 10 j)))
   where
-    go : (b : Bool) → (T (not b) → 10 ^ j ≤ n) → (10 ^ j ≤ n → 10 ^ digits-from k (suc j) n ≤ 10 * n) → 10 ^ (elim b as (λ _. ℕ) [ true ↦ j | false ↦ digits-from k (suc j) n ]) ≤ 10 * n
+    go : (b : Bool) → (T (not b) → 10 ^ j ≤ n) → (10 ^ j ≤ n → 10 ^ digits-from k (suc j) n ≤ 10 * n)
+        → 10 ^ (elim b as (λ _. ℕ) [ true ↦ j | false ↦ digits-from k (suc j) n ]) ≤ 10 * n
     go true p q = h
     go false p q = q (p tt)
 
@@ -69,14 +71,16 @@ module _ (w : ℕ) (x : Ratio) where
   -- x is below 10^w times the power after the next
   pub start-high : x ≼ ofℕ (10 ^ w) ⊗ ten-to (sucℤ (sucℤ start))
   start-high = from-scale x (ten-to (sucℤ (sucℤ start))) (10 ^ w) _ _ scale-pos (scale-suc (sucℤ start) _ _ (scale-suc start _ _ start-is))
-      (go (x .num) (x .den) (10 ^ digit-count (x .num)) (10 ^ digit-count (x .den)) (10 ^ w) (digits-above (x .num)) (digits-below (x .den) (x .den-pos)))
+      (go (x .num) (x .den) (10 ^ digit-count (x .num)) (10 ^ digit-count (x .den)) (10 ^ w) (digits-above (x .num))
+      (digits-below (x .den) (x .den-pos)))
     where
       go : (n d A B W : ℕ) → n < A → B ≤ 10 * d → n * (B * (10 * W)) ≤ W * (10 * (10 * A)) * d
       go n d A B W p q = omega (arith, mul-le-mul-right (10 * W) (mul-le-mul (le-of-lt p) q))
 
   -- .. and does not reach 10 · 10^w times the next
   pub start-not-high : ¬ (ofℕ (10 * 10 ^ w) ⊗ ten-to (sucℤ start) ≼ x)
-  start-not-high h = go (x .num) (x .den) (10 ^ digit-count (x .num)) (10 ^ digit-count (x .den)) (10 ^ w) (pow-pos w) (x .den-pos) (digits-above (x .num)) (digits-below (x .den) (x .den-pos))
+  start-not-high h = go (x .num) (x .den) (10 ^ digit-count (x .num)) (10 ^ digit-count (x .den)) (10 ^ w) (pow-pos w) (x .den-pos)
+      (digits-above (x .num)) (digits-below (x .den) (x .den-pos))
       (at-scale-ge x (ten-to (sucℤ start)) (10 * 10 ^ w) _ _ (scale-suc start _ _ start-is) h)
     where
       go : (n d A B W : ℕ) → 0 < W → 0 < d → n < A → B ≤ 10 * d → 10 * W * (10 * A) * d ≤ n * (B * (10 * W)) → ⊥
@@ -92,7 +96,8 @@ module _ (w : ℕ) (x : Ratio) where
 
   -- .. and more than any smaller number of times the power before
   pub start-not-low : 0 < x .num → (c : ℕ) → c < 10 * 10 ^ w → ¬ (x ≼ ofℕ c ⊗ ten-to (predℤ start))
-  start-not-low pos-x c l h = go (x .num) (x .den) (10 ^ digit-count (x .num)) (10 ^ digit-count (x .den)) (10 ^ w) pos-x (digits-below (x .num) pos-x) (digits-above (x .den)) l
+  start-not-low pos-x c l h = go (x .num) (x .den) (10 ^ digit-count (x .num)) (10 ^ digit-count (x .den)) (10 ^ w) pos-x
+      (digits-below (x .num) pos-x) (digits-above (x .den)) l
       (at-scale x (ten-to (predℤ start)) c _ _ (scale-pred start _ _ start-is) h)
     where
       go : (n d A B W : ℕ) → 0 < n → A ≤ 10 * n → d < B → c < 10 * W → n * (10 * (B * (10 * W))) ≤ c * A * d → ⊥

@@ -1,21 +1,21 @@
 -- Rounding down to w + 1 digits: what is computed is the greatest figure not above x, and is at most one part in 10^w below it. Stated over
 -- fractions with natural numerators; `Rounding` has the statements over signed ones. Assumes nothing.
-use mathlib.Core.Path.{_≡_, refl, sym, _∙_, ap}
-use mathlib.Core.List.{List, [], _∷_}
+use mathlib.Core.Path.{_≡_, refl}
+use mathlib.Core.List.{[], _∷_}
 use mathlib.Core.Bool.{Bool, true, false, not}
 use Prim.Native.Nat.{ℕ, zero, suc, _+_, _*_, _-_, _^_, _≤_, _<_}
 use native.Mathlib.Nat.{le-trans, zero-lt-suc, lt-irrefl, not-le-of-lt, le-of-lt, lt-of-not-le}
-use native.Mathlib.Omega.{arith, P, patom, plit}
+use native.Mathlib.Omega.{arith, patom, plit}
 use lib.Dec.{T, ltb, ltb→lt, nltb→le}
-use lib.IntN.{ℤ, pos, negsuc, sucℤ, _+ℤ_}
+use lib.IntN.{ℤ, sucℤ}
 use Rattle.fraction.specs.Fraction.{Fraction}
-use Rattle.fraction.proofs.Ratio.{Ratio, _≼_, _≈_, ofℕ, _⊕_, _⊗_, ≼-refl, ≼-trans, ≈-le, ≈-ge, ⊗-mono, ⊗-comm, ofℕ-≼, ofℕ-⊕, ⊗-zero, zero-≼}
+use Rattle.fraction.proofs.Ratio.{Ratio, _≼_, ofℕ, _⊕_, _⊗_, ≼-refl, ≼-trans, ≈-le, ⊗-mono, ⊗-comm, ofℕ-≼, ofℕ-⊕, ⊗-zero, zero-≼}
 use Rattle.fraction.proofs.Certificate.{_+'_, _*'_, prove, hyp}
-use Rattle.fraction.proofs.PowersOfTen.{ten-to, ten-pos}
+use Rattle.fraction.proofs.PowersOfTen.{ten-to}
 use Rattle.fraction.proofs.Signed.{signed}
 use Rattle.figure.specs.declared.Figure.{Figure}
 use Rattle.figure.specs.Rounding.{figure, none, IsFigure, is-zero, IsDown, floor, down-from, down}
-use Rattle.figure.proofs.Scale.{pow-pos, not-≼, zero-below, multiple-pos, ten-step, multiple-≼, Powers, same-power, lower, higher, powers, higher-≼}
+use Rattle.figure.proofs.Scale.{pow-pos, not-≼, zero-below, ten-step, multiple-≼, Powers, same-power, lower, higher, powers, higher-≼}
 use Rattle.figure.proofs.Counts.{floor-reach, floor-greatest}
 use Rattle.figure.proofs.Digits.{start, start-low, start-not-high}
 use Rattle.figure.proofs.Value.{val, above-value, above-val, value-≼, val-≼, low-end, figure-of, Shape, empty, full, shape, figure-same}
@@ -30,7 +30,8 @@ pub record Close (w : ℕ) (x : Ratio) (f : Figure) : Type 0 where
 
 from-close : (w : ℕ) (x : Ratio) → 0 < x .num → Close w x (down-from (suc w) (signed x) (start w x))
 unfolding down-from
-from-close w x pos-x = go (ltb next (10 ^ (suc w - 1))) (λ t. rw (low-end w) at (ltb→lt next (10 ^ (suc w - 1)) t)) (λ t. rw (low-end w) at (nltb→le next (10 ^ (suc w - 1)) t))
+from-close w x pos-x = go (ltb next (10 ^ (suc w - 1))) (λ t. rw (low-end w) at (ltb→lt next (10 ^ (suc w - 1)) t))
+    (λ t. rw (low-end w) at (nltb→le next (10 ^ (suc w - 1)) t))
   where
     e : ℤ
     e = start w x
@@ -38,10 +39,12 @@ from-close w x pos-x = go (ltb next (10 ^ (suc w - 1))) (λ t. rw (low-end w) at
     next : ℕ
     next = floor (signed x) (sucℤ e)
 
-    go : (b : Bool) → (T b → next < 10 ^ w) → (T (not b) → 10 ^ w ≤ next) → Close w x (elim b as (λ _. Figure) [ true ↦ figure (floor (signed x) e) e | false ↦ figure next (sucℤ e) ])
+    go : (b : Bool) → (T b → next < 10 ^ w) → (T (not b) → 10 ^ w ≤ next)
+        → Close w x (elim b as (λ _. Figure) [ true ↦ figure (floor (signed x) e) e | false ↦ figure next (sucℤ e) ])
     go true p q = record {
       big = floor-greatest x e (10 ^ w) (start-low w x pos-x);
-      small = lt-of-not-le (λ l. not-le-of-lt (p tt) (floor-greatest x (sucℤ e) (10 ^ w) (≼-trans (≈-le (ten-step (10 ^ w) e)) (≼-trans (multiple-≼ e l) (floor-reach x e)))));
+      small = lt-of-not-le (λ l. not-le-of-lt (p tt)
+          (floor-greatest x (sucℤ e) (10 ^ w) (≼-trans (≈-le (ten-step (10 ^ w) e)) (≼-trans (multiple-≼ e l) (floor-reach x e)))));
       reach = floor-reach x e;
       close = floor-greatest x e;
     }
@@ -56,21 +59,23 @@ pub down-close : (w : ℕ) (x : Ratio) → 0 < x .num → Close w x (down (suc w
 unfolding down signed
 down-close w x pos-x = go (x .num) pos-x (from-close w x pos-x)
   where
-    go : (n : ℕ) → 0 < n → Close w x (down-from (suc w) (signed x) (start w x)) → Close w x (elim n as (λ _. Figure) [ zero ↦ none | suc _ ↦ down-from (suc w) (signed x) (start w x) ])
+    go : (n : ℕ) → 0 < n → Close w x (down-from (suc w) (signed x) (start w x))
+        → Close w x (elim n as (λ _. Figure) [ zero ↦ none | suc _ ↦ down-from (suc w) (signed x) (start w x) ])
     go zero h t = absurd (lt-irrefl 0 h)
     go (suc n) h t = t
 
 close-greatest : (w : ℕ) (x : Ratio) (f : Figure) → Close w x f → (g : Figure) → IsFigure (suc w) g → val g ≼ x → val g ≼ val f
 close-greatest w x f t g i h = go (shape i)
   where
-    at : 10 ^ w ≤ g .digits → g .digits < 10 * 10 ^ w → Powers (g .power) (f .power) → val g ≼ val f
-    at b s (same-power r) = rw r (multiple-≼ (f .power) (t .close (g .digits) (rw r at h)))
-    at b s (lower k r) = ≼-trans (multiple-≼ (g .power) (le-of-lt s)) (rw r (higher-≼ (10 ^ w) (f .digits) (g .power) k (t .big)))
-    at b s (higher k r) = absurd (not-le-of-lt (t .small) (t .close (10 * 10 ^ w) (≼-trans (higher-≼ (10 ^ w) (g .digits) (f .power) k b) (rw r at h))))
+    by-power : 10 ^ w ≤ g .digits → g .digits < 10 * 10 ^ w → Powers (g .power) (f .power) → val g ≼ val f
+    by-power b s (same-power r) = rw r (multiple-≼ (f .power) (t .close (g .digits) (rw r at h)))
+    by-power b s (lower k r) = ≼-trans (multiple-≼ (g .power) (le-of-lt s)) (rw r (higher-≼ (10 ^ w) (f .digits) (g .power) k (t .big)))
+    by-power b s (higher k r) = absurd (not-le-of-lt (t .small)
+        (t .close (10 * 10 ^ w) (≼-trans (higher-≼ (10 ^ w) (g .digits) (f .power) k b) (rw r at h))))
 
     go : Shape w g → val g ≼ val f
     go (empty z z′) = rw z (≼-trans (≈-le (⊗-zero _)) (zero-≼ _))
-    go (full b s) = at b s (powers (g .power) (f .power))
+    go (full b s) = by-power b s (powers (g .power) (f .power))
 
 pub close-is-down : (w : ℕ) (x : Ratio) (f : Figure) → Close w x f → IsDown (suc w) (signed x) f
 close-is-down w x f t = record {
@@ -100,7 +105,8 @@ natural-down w x = go (x .num) refl
     go (suc n) z = close-is-down w x _ (down-close w x (rw z (zero-lt-suc n)))
 
 pub down-unique : (w : ℕ) (x : Fraction) (f g : Figure) → IsDown (suc w) x f → IsDown (suc w) x g → f ≡ g
-down-unique w x f g a b = figure-same w f g (a .is-figure) (b .is-figure) (val-≼ f g (b .greatest f (a .is-figure) (a .not-above))) (val-≼ g f (a .greatest g (b .is-figure) (b .not-above)))
+down-unique w x f g a b = figure-same w f g (a .is-figure) (b .is-figure) (val-≼ f g (b .greatest f (a .is-figure) (a .not-above)))
+    (val-≼ g f (a .greatest g (b .is-figure) (b .not-above)))
 
 -- what is below is rounded below
 pub natural-down-mono : (w : ℕ) {x y : Ratio} → x ≼ y → val (down (suc w) (signed x)) ≼ val (down (suc w) (signed y))
@@ -113,14 +119,17 @@ down-pos w x h = le-trans (pow-pos w) (down-close w x h .big)
 -- ---- code that found the digits has found the rounding
 
 -- D, of w + 1 digits, is the greatest multiple of 10^e that does not pass x
-pub round-down : (w : ℕ) (x : Ratio) (D : ℕ) (e : ℤ) → 10 ^ w ≤ D → D < 10 * 10 ^ w → ofℕ D ⊗ ten-to e ≼ x → ((c : ℕ) → ofℕ c ⊗ ten-to e ≼ x → c ≤ D) → figure D e ≡ down (suc w) (signed x)
-round-down w x D e big small reach close = down-unique w (signed x) _ _ (close-is-down w x (figure D e) (record { big = big; small = small; reach = reach; close = close })) (natural-down w x)
+pub round-down : (w : ℕ) (x : Ratio) (D : ℕ) (e : ℤ) → 10 ^ w ≤ D → D < 10 * 10 ^ w → ofℕ D ⊗ ten-to e ≼ x
+    → ((c : ℕ) → ofℕ c ⊗ ten-to e ≼ x → c ≤ D) → figure D e ≡ down (suc w) (signed x)
+round-down w x D e big small reach close = down-unique w (signed x) _ _
+    (close-is-down w x (figure D e) (record { big = big; small = small; reach = reach; close = close })) (natural-down w x)
 
 -- ---- rounding down takes off at most one part in 10^w
 
 close-near : (w : ℕ) (x : Ratio) (f : Figure) → Close w x f → ofℕ (10 ^ w) ⊗ x ≼ ofℕ (10 ^ w) ⊗ val f ⊕ x
 close-near w x f t = prove (ofℕ (10 ^ w) ∷ x ∷ ofℕ D ∷ ten-to (f .power) ∷ ofℕ (D + 1) ∷ [])
-    (hyp (patom 0) (patom 1) (patom 4 *' patom 3) ∷ hyp (patom 0 *' patom 3) (patom 4) (patom 2 +' plit 1) ∷ hyp (patom 3) (patom 0) (patom 2) ∷ hyp (plit 1) (patom 2 *' patom 3) (patom 1) ∷ [])
+    (hyp (patom 0) (patom 1) (patom 4 *' patom 3) ∷ hyp (patom 0 *' patom 3) (patom 4) (patom 2 +' plit 1) ∷ hyp (patom 3) (patom 0) (patom 2)
+    ∷ hyp (plit 1) (patom 2 *' patom 3) (patom 1) ∷ [])
     (patom 0 *' patom 1) (patom 0 *' (patom 2 *' patom 3) +' patom 1) tt
     (not-≼ _ _ (λ u. lt-irrefl D (omega (arith, t .close (D + 1) u)))) (≈-le (ofℕ-⊕ D 1)) (ofℕ-≼ (t .big)) (t .reach)
   where

@@ -1,12 +1,11 @@
 -- What the roundings leave alone: a number that w + 1 digits can hold. Assumes nothing.
 use mathlib.Core.Path.{_≡_, refl, sym, _∙_, ap}
-use Prim.Native.Nat.{ℕ, zero, suc, _+_, _*_, _-_, _^_, _≤_, _<_}
-use native.Mathlib.Nat.{le-trans, zero-lt-suc, pow-succ', mul-le-mul-right, mul-lt-mul-of-pos-right, le-of-mul-le-mul-left, lt-irrefl, le-of-suc-le-suc}
+use Prim.Native.Nat.{ℕ, zero, suc, _*_, _-_, _^_, _≤_, _<_}
+use native.Mathlib.Nat.{zero-lt-suc, pow-succ', mul-le-mul-right, mul-lt-mul-of-pos-right, le-of-mul-le-mul-left, le-of-suc-le-suc}
 use native.Mathlib.Omega.{arith}
 use lib.Pow.{pow-add}
-use lib.Dec.{lit<}
-use lib.IntN.{ℤ, pos, negsuc, negℤ, _+ℤ_, _-ℤ_}
-use Rattle.fraction.specs.Fraction.{Fraction, _≈ᶠ_, whole, ratio, ten, _*ᶠ_}
+use lib.IntN.{ℤ, pos, negℤ, _+ℤ_, _-ℤ_}
+use Rattle.fraction.specs.Fraction.{_≈ᶠ_, whole, ratio, ten, _*ᶠ_}
 use Rattle.fraction.proofs.Ratio.{Ratio, _≼_, _≈_, ofℕ, _⊗_, ≼-refl, ≼-trans, ≼-antisym, ≈-refl, ≈-sym, ≈-trans, ≈-le, ≈-ge, ⊗-cong, ⊗-comm, ⊗-assoc, ⊗-one, ⊗-zero}
 use Rattle.fraction.proofs.PowersOfTen.{ten-to, ten-zero, ten-+}
 use Rattle.fraction.proofs.Inverse.{_over_, over-is}
@@ -17,8 +16,8 @@ use Rattle.figure.specs.Operations.{times-ten, of-whole, of-quantity}
 use Rattle.figure.proofs.Scale.{pow-pos, exponent-<, ten-shift, power-inverse}
 use Rattle.figure.proofs.Digits.{digits-above, digits-below}
 use Rattle.figure.proofs.Value.{val, value-is, val-≼, below-val, above-val, below-value, above-value, figure-of}
-use Rattle.figure.proofs.Up.{natural-up, natural-up-mono}
-use Rattle.figure.proofs.Down.{natural-down, natural-down-mono}
+use Rattle.figure.proofs.Up.{natural-up}
+use Rattle.figure.proofs.Down.{natural-down}
 
 -- x is the value of a figure of w + 1 digits
 pub record Exact (w : ℕ) (x : Ratio) : Type 0 where
@@ -32,10 +31,12 @@ exact-≈ e h = record { holder = h .holder; is-figure = h .is-figure; same = �
 -- ---- rounding up stays below it, rounding down above it, and itself it does not move
 
 pub up-below : {w : ℕ} {x y : Ratio} → Exact w y → x ≼ y → val (up (suc w) (signed x)) ≼ y
-up-below {w} {x} {y} h p = ≼-trans (val-≼ _ _ (natural-up w x .least (h .holder) (h .is-figure) (below-value _ (≼-trans p (≈-ge (h .same)))))) (≈-le (h .same))
+up-below {w} {x} {y} h p = ≼-trans (val-≼ _ _ (natural-up w x .least (h .holder) (h .is-figure) (below-value _ (≼-trans p (≈-ge (h .same))))))
+    (≈-le (h .same))
 
 pub down-above : {w : ℕ} {x y : Ratio} → Exact w y → y ≼ x → y ≼ val (down (suc w) (signed x))
-down-above {w} {x} {y} h p = ≼-trans (≈-ge (h .same)) (val-≼ _ _ (natural-down w x .greatest (h .holder) (h .is-figure) (above-value _ (≼-trans (≈-le (h .same)) p))))
+down-above {w} {x} {y} h p = ≼-trans (≈-ge (h .same))
+    (val-≼ _ _ (natural-down w x .greatest (h .holder) (h .is-figure) (above-value _ (≼-trans (≈-le (h .same)) p))))
 
 pub exact-up : {w : ℕ} {x : Ratio} → Exact w x → val (up (suc w) (signed x)) ≈ x
 exact-up {w} {x} h = ≼-antisym (up-below h (≼-refl x)) (below-val _ (natural-up w x .not-below))
@@ -101,7 +102,8 @@ of-whole-exact n h = rw (value-is (down 9 (whole n)), ← signed-whole n) (signe
 -- a quantity
 pub of-quantity-exact : (c p : ℕ) → c < 10 ^ 9 → value (of-quantity c p) ≈ᶠ ratio (pos c) (10 ^ p)
 unfolding of-quantity
-of-quantity-exact c p h = rw (value-is (up 9 (ratio (pos c) (10 ^ p))), ← signed-ratio c (10 ^ p)) (signed-≈ (exact-up (exact-≈ (≈-sym (over-ten c p)) (short-exact 8 c (negℤ (pos p)) h))))
+of-quantity-exact c p h = rw (value-is (up 9 (ratio (pos c) (10 ^ p))), ← signed-ratio c (10 ^ p))
+    (signed-≈ (exact-up (exact-≈ (≈-sym (over-ten c p)) (short-exact 8 c (negℤ (pos p)) h))))
 
 -- times a power of ten
 pub natural-times-ten : (a : Figure) (p : ℤ) → val (times-ten a p) ≈ val a ⊗ ten-to p

@@ -1,9 +1,8 @@
 -- Sums in a row. A figure that n terms may have added up to, each 0 or from 10^-l to 10^h, rounded at each addition: it is 0 or from 10^-l
 -- to n · 10^h, since both ends are figures themselves. So its power is bounded however many additions there were. Assumes nothing.
-use mathlib.Core.Path.{_≡_, refl}
-use Prim.Native.Nat.{ℕ, suc, _+_, _*_, _^_, _≤_, _<_}
-use native.Mathlib.Omega.{arith}
-use Rattle.fraction.proofs.Ratio.{ofℕ, ≼-trans, ≈-le, ⊗-zero, zero-≼}
+use mathlib.Core.Path.{refl}
+use Prim.Native.Nat.{ℕ, suc, _+_, _^_, _≤_, _<_}
+use Rattle.fraction.proofs.Ratio.{≼-trans, ≈-le, ⊗-zero, zero-≼}
 use Rattle.figure.specs.declared.Figure.{Figure}
 use Rattle.figure.specs.Rounding.{none, IsFigure, is-zero}
 use Rattle.figure.specs.Operations.{plus-up, plus-down, total-up, total-down}
@@ -19,7 +18,14 @@ pub record Gathered (K l h n : ℕ) (f : Figure) : Type 0 where
   pub reach : Reach l h n (val f)
 
 pub gathered-none : (K l h : ℕ) → Gathered K l h 0 none
-gathered-none K l h = record { is-figure = is-zero refl refl; reach = record { low = λ z. absurd (none-not-pos z); high = ≼-trans (≈-le (⊗-zero _)) (zero-≼ _) } }
+gathered-none K l h = record {
+  is-figure = is-zero refl refl;
+  reach = record {
+    low = λ z. absurd (none-not-pos z);
+    high = ≼-trans (≈-le (⊗-zero _))
+        (zero-≼ _);
+  };
+}
 
 pub gathered-one : (l h : ℕ) {w m : ℕ} {f : Figure} → suc m ≤ l → m + suc w ≤ h → Sized (suc w) m f → Gathered (suc w) l h 1 f
 gathered-one l h p q s = record { is-figure = s .is-figure; reach = reach-≤ p q (sized-reach s) }

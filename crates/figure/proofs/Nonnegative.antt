@@ -1,5 +1,5 @@
 -- The order of signed fractions, seen by the fraction with a natural numerator that a signed one is, or 0. Assumes nothing.
-use mathlib.Core.Path.{_≡_, refl}
+use mathlib.Core.Path.{_≡_}
 use Prim.Native.Nat.{ℕ, zero, suc, _*_, _≤_, _<_}
 use native.Mathlib.Nat.{mul-pos, lt-irrefl, zero-lt-suc}
 use native.Mathlib.Omega.{arith}

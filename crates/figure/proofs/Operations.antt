@@ -1,9 +1,8 @@
 -- The exact results that the operations round, as fractions with natural numerators. Assumes nothing.
-use mathlib.Core.Path.{_≡_, refl, sym, _∙_, ap, ap₂}
-use Prim.Native.Nat.{ℕ, suc, _^_}
-use lib.IntN.{ℤ, pos}
-use Rattle.fraction.specs.Fraction.{Fraction, whole, ratio, inverse, _+ᶠ_, _-ᶠ_, _*ᶠ_, _/ᶠ_}
-use Rattle.fraction.proofs.Ratio.{Ratio, ofℕ, _⊕_, _⊗_, _⊖_}
+use mathlib.Core.Path.{_≡_, sym, _∙_, ap, ap₂}
+use Prim.Native.Nat.{ℕ}
+use Rattle.fraction.specs.Fraction.{_+ᶠ_, _-ᶠ_, _*ᶠ_, _/ᶠ_}
+use Rattle.fraction.proofs.Ratio.{_⊕_, _⊗_, _⊖_}
 use Rattle.fraction.proofs.Inverse.{inv}
 use Rattle.fraction.proofs.Signed.{signed, nonnegative, signed-⊕, signed-⊗, signed-quotient, nonnegative-minus}
 use Rattle.figure.specs.declared.Figure.{Figure}

@@ -1,25 +1,24 @@
 -- How far from 1 a number lies: it is 0, or from 10^-l to n · 10^h. Sums, products, quotients and differences of such numbers are such
 -- numbers, and a rounding to w + 1 digits does not move them out. Assumes nothing.
-use mathlib.Core.Path.{_≡_, refl, sym, _∙_, ap}
-use mathlib.Core.List.{List, [], _∷_}
-use mathlib.Core.Logic.{_⊎_, inl, inr, ⊎-elim}
+use mathlib.Core.Path.{_≡_, refl, _∙_, ap}
+use mathlib.Core.List.{[], _∷_}
+use mathlib.Core.Logic.{⊎-elim}
 use Prim.Native.Nat.{ℕ, zero, suc, _+_, _*_, _-_, _^_, _≤_, _<_, suc-le-suc}
-use native.Mathlib.Nat.{le-trans, le-refl, le-of-lt, le-of-eq, lt-of-not-le, not-le-of-lt, lt-irrefl, zero-lt-suc, mul-pos, mul-le-mul, mul-le-mul-left, mul-le-mul-right, mul-lt-mul-of-pos-left, pow-succ'}
-use native.Mathlib.Omega.{arith, by-contra, P, patom, plit}
+use native.Mathlib.Nat.{le-refl, le-of-lt, le-of-eq, lt-of-not-le, not-le-of-lt, zero-lt-suc, mul-pos, mul-le-mul-left, mul-le-mul-right, mul-lt-mul-of-pos-left, pow-succ'}
+use native.Mathlib.Omega.{arith, patom, plit}
 use lib.Pow.{pow-add}
-use lib.IntN.{ℤ, pos, negsuc, negℤ, +ℤ-invr}
+use lib.IntN.{ℤ, pos, negsuc, negℤ}
 use lib.Signed.{mag}
-use Rattle.fraction.proofs.Ratio.{Ratio, _≼_, _≈_, ofℕ, _⊕_, _⊗_, _⊖_, ⊖-cap, ≼-refl, ≼-trans, ≈-refl, ≈-sym, ≈-trans, ≈-le, ≈-ge, ⊕-mono, ⊗-mono, ⊗-cong, ⊗-comm, ⊗-assoc, ⊗-one, ofℕ-≼, ofℕ-⊕, ofℕ-⊗, zero-or-pos, pos-≼}
-use Rattle.fraction.proofs.Certificate.{_+'_, _*'_, prove, same-value, hyp}
+use Rattle.fraction.proofs.Ratio.{Ratio, _≼_, _≈_, ofℕ, _⊕_, _⊗_, _⊖_, ⊖-cap, ≼-refl, ≼-trans, ≈-refl, ≈-sym, ≈-trans, ≈-le, ≈-ge, ⊕-mono, ⊗-mono, ⊗-cong, ofℕ-≼, ofℕ-⊕, ofℕ-⊗, zero-or-pos, pos-≼}
+use Rattle.fraction.proofs.Certificate.{_+'_, _*'_, prove, hyp}
 use Rattle.fraction.proofs.Inverse.{inv, inv-is}
-use Rattle.fraction.proofs.PowersOfTen.{ten-to, ten-zero, ten-nat, ten-+}
+use Rattle.fraction.proofs.PowersOfTen.{ten-to, ten-nat}
 use Rattle.fraction.proofs.Signed.{signed}
-use Rattle.figure.specs.declared.Figure.{Figure}
 use Rattle.figure.specs.Rounding.{none, up, down}
 use Rattle.figure.proofs.Scale.{pow-pos, pow-mono, exponent-<, exponent-≤, power-inverse}
 use Rattle.figure.proofs.Value.{val, below-val, above-val}
 use Rattle.figure.proofs.Up.{natural-up, up-zero}
-use Rattle.figure.proofs.Down.{natural-down, down-zero}
+use Rattle.figure.proofs.Down.{natural-down}
 use Rattle.figure.proofs.Exact.{Exact, up-below, down-above, short-exact, exact-≈}
 
 pub record Reach (l h n : ℕ) (x : Ratio) : Type 0 where
@@ -60,7 +59,8 @@ reach-⊗ {l} {h} {n} {l′} {h′} {n′} {x} {y} p q = record { low = λ z. lo
   where
     low : 0 < x .num → 0 < y .num → ofℕ 1 ≼ ofℕ (10 ^ (l + l′)) ⊗ (x ⊗ y)
     low a b = prove (ofℕ (10 ^ l) ∷ ofℕ (10 ^ l′) ∷ ofℕ (10 ^ (l + l′)) ∷ x ∷ y ∷ [])
-        (hyp (plit 1) (plit 1) (patom 0 *' patom 3) ∷ hyp (patom 0 *' patom 3) (plit 1) (patom 1 *' patom 4) ∷ hyp (patom 3 *' patom 4) (patom 0 *' patom 1) (patom 2) ∷ [])
+        (hyp (plit 1) (plit 1) (patom 0 *' patom 3) ∷ hyp (patom 0 *' patom 3) (plit 1) (patom 1 *' patom 4)
+        ∷ hyp (patom 3 *' patom 4) (patom 0 *' patom 1) (patom 2) ∷ [])
         (plit 1) (patom 2 *' (patom 3 *' patom 4)) tt
         (p .low a) (q .low b) (rw (pow-add 10 l l′) (≈-ge (ofℕ-⊗ (10 ^ l) (10 ^ l′))))
 
@@ -79,8 +79,10 @@ reach-⊕ {l} {h} {n} {n′} {x} {y} p q = record { low = λ z. go (x .num) refl
     right e z = unfold _⊕_ in factor-pos (y .num) (x .den) (omega (arith, rw e at z))
 
     go : (m : ℕ) → x .num ≡ m → 0 < (x ⊕ y) .num → ofℕ 1 ≼ L ⊗ (x ⊕ y)
-    go zero e z = prove (L ∷ x ∷ y ∷ []) (hyp (plit 1) (plit 1) (patom 0 *' patom 2) ∷ []) (plit 1) (patom 0 *' (patom 1 +' patom 2)) tt (q .low (right e z))
-    go (suc m) e z = prove (L ∷ x ∷ y ∷ []) (hyp (plit 1) (plit 1) (patom 0 *' patom 1) ∷ []) (plit 1) (patom 0 *' (patom 1 +' patom 2)) tt (p .low (rw e (zero-lt-suc m)))
+    go zero e z = prove (L ∷ x ∷ y ∷ []) (hyp (plit 1) (plit 1) (patom 0 *' patom 2) ∷ []) (plit 1) (patom 0 *' (patom 1 +' patom 2)) tt
+        (q .low (right e z))
+    go (suc m) e z = prove (L ∷ x ∷ y ∷ []) (hyp (plit 1) (plit 1) (patom 0 *' patom 1) ∷ []) (plit 1) (patom 0 *' (patom 1 +' patom 2)) tt
+        (p .low (rw e (zero-lt-suc m)))
 
     high : x ⊕ y ≼ ofℕ ((n + n′) * 10 ^ h)
     high = ≼-trans (⊕-mono (p .high) (q .high)) (≼-trans (≈-ge (ofℕ-⊕ (n * 10 ^ h) (n′ * 10 ^ h))) (ofℕ-≼ (omega arith)))
@@ -90,10 +92,12 @@ reach-⊕ {l} {h} {n} {n′} {x} {y} p q = record { low = λ z. go (x .num) refl
 pub reach-inv : {l h : ℕ} {y : Ratio} → 0 < y .num → Reach l h 1 y → Reach h l 1 (inv y)
 reach-inv {l} {h} {y} z p = record {
   low = λ _. prove (y ∷ inv y ∷ ofℕ (10 ^ h) ∷ ofℕ (1 * 10 ^ h) ∷ [])
-      (hyp (plit 1) (plit 1) (patom 0 *' patom 1) ∷ hyp (patom 1) (patom 0) (patom 3) ∷ hyp (patom 1) (patom 3) (patom 2) ∷ []) (plit 1) (patom 2 *' patom 1) tt
+      (hyp (plit 1) (plit 1) (patom 0 *' patom 1) ∷ hyp (patom 1) (patom 0) (patom 3) ∷ hyp (patom 1) (patom 3) (patom 2) ∷ []) (plit 1)
+      (patom 2 *' patom 1) tt
       (≈-ge (inv-is y z)) (p .high) (ofℕ-≼ (omega arith));
   high = prove (y ∷ inv y ∷ ofℕ (10 ^ l) ∷ ofℕ (1 * 10 ^ l) ∷ [])
-      (hyp (patom 1) (plit 1) (patom 2 *' patom 0) ∷ hyp (patom 2) (patom 0 *' patom 1) (plit 1) ∷ hyp (plit 1) (patom 2) (patom 3) ∷ []) (patom 1) (patom 3) tt
+      (hyp (patom 1) (plit 1) (patom 2 *' patom 0) ∷ hyp (patom 2) (patom 0 *' patom 1) (plit 1) ∷ hyp (plit 1) (patom 2) (patom 3) ∷ []) (patom 1)
+      (patom 3) tt
       (p .low z) (≈-le (inv-is y z)) (ofℕ-≼ (omega arith));
 }
 
@@ -109,12 +113,16 @@ reach-⊖ {l} {x = x} {y} p q r = record { low = low; high = ≼-trans (⊖-cap 
     go : (L a b c d s t : ℕ) → 0 < L → L * a ≡ s * b → L * c ≡ t * d → 0 < a * d - c * b → b * d ≤ L * (a * d - c * b)
     go L a b c d s t hL e f z =
         let sum : a * d - c * b + c * b ≡ a * d = omega arith in
-        let less : t * (b * d) < s * (b * d) = omega (arith, ap (λ u. u * d) e, ap (λ u. u * b) f, mul-le-mul-left L (le-of-eq sum), mul-le-mul-left L z) in
+        let less : t * (b * d) < s * (b * d) = omega
+        (arith, ap (λ u. u * d) e, ap (λ u. u * b) f, mul-le-mul-left L (le-of-eq sum), mul-le-mul-left L z) in
         let one : suc t ≤ s = lt-of-not-le (λ q. not-le-of-lt less (mul-le-mul-right (b * d) q)) in
         omega (arith, ap (λ u. L * u) sum, mul-le-mul-right (b * d) one, ap (λ u. u * d) e, ap (λ u. u * b) f)
 
     low : 0 < (x ⊖ y) .num → ofℕ 1 ≼ ofℕ (10 ^ l) ⊗ (x ⊖ y)
-    low z = unfold ofℕ _⊗_ _⊖_ in record { le = let k = go (10 ^ l) (x .num) (x .den) (y .num) (y .den) (p .times) (q .times) (pow-pos l) (omega (arith, p .is .eq)) (omega (arith, q .is .eq)) z in omega (arith, k) }
+    low z = unfold ofℕ _⊗_ _⊖_ in record {
+      le = let k = go (10 ^ l) (x .num) (x .den) (y .num) (y .den) (p .times) (q .times) (pow-pos l)
+          (omega (arith, p .is .eq)) (omega (arith, q .is .eq)) z in omega (arith, k);
+    }
 
 -- ---- roundings: both ends are numbers that w + 1 digits can hold
 
@@ -124,11 +132,13 @@ end-exact w h n p = exact-≈ (≈-trans (⊗-cong (≈-refl _) (ten-nat h)) (�
 -- 10^-l, below x where 10^l times x is at least 1
 low-end-below : {x : Ratio} (l : ℕ) → ofℕ 1 ≼ ofℕ (10 ^ l) ⊗ x → ofℕ 1 ⊗ ten-to (negℤ (pos l)) ≼ x
 low-end-below {x} l p = prove (ofℕ (10 ^ l) ∷ ten-to (negℤ (pos l)) ∷ x ∷ [])
-    (hyp (patom 1) (plit 1) (patom 0 *' patom 2) ∷ hyp (patom 2) (patom 0 *' patom 1) (plit 1) ∷ []) (plit 1 *' patom 1) (patom 2) tt p (≈-le (power-inverse l))
+    (hyp (patom 1) (plit 1) (patom 0 *' patom 2) ∷ hyp (patom 2) (patom 0 *' patom 1) (plit 1) ∷ []) (plit 1 *' patom 1) (patom 2) tt p
+    (≈-le (power-inverse l))
 
 low-end-above : {x : Ratio} (l : ℕ) → ofℕ 1 ⊗ ten-to (negℤ (pos l)) ≼ x → ofℕ 1 ≼ ofℕ (10 ^ l) ⊗ x
 low-end-above {x} l p = prove (ofℕ (10 ^ l) ∷ ten-to (negℤ (pos l)) ∷ x ∷ [])
-    (hyp (patom 0) (plit 1 *' patom 1) (patom 2) ∷ hyp (plit 1) (plit 1) (patom 0 *' patom 1) ∷ []) (plit 1) (patom 0 *' patom 2) tt p (≈-ge (power-inverse l))
+    (hyp (patom 0) (plit 1 *' patom 1) (patom 2) ∷ hyp (plit 1) (plit 1) (patom 0 *' patom 1) ∷ []) (plit 1) (patom 0 *' patom 2) tt p
+    (≈-ge (power-inverse l))
 
 pub none-not-pos : ¬ (0 < (val none) .num)
 unfolding ofℕ _⊗_
@@ -145,7 +155,8 @@ reach-up w {l} {h} {n} {x} s r = record {
 
 pub reach-down : (w : ℕ) {l h n : ℕ} {x : Ratio} → Reach l h n x → Reach l h n (val (down (suc w) (signed x)))
 reach-down w {l} {x = x} r = record {
-  low = λ z. low-end-above l (down-above (short-exact w 1 (negℤ (pos l)) (omega (arith, pow-succ' 10 w, pow-pos w))) (low-end-below l (r .low (pos-≼ below z))));
+  low = λ z. low-end-above l (down-above (short-exact w 1 (negℤ (pos l)) (omega (arith, pow-succ' 10 w, pow-pos w)))
+      (low-end-below l (r .low (pos-≼ below z))));
   high = ≼-trans below (r .high);
 }
   where
@@ -166,9 +177,11 @@ ten-low (negsuc k) m h = record { le = omega (arith, pow-mono (suc-le-suc h)) }
 
 pub power-reach : (v m d : ℕ) (p : ℤ) → d < 10 ^ suc v → mag p ≤ m → Reach (suc m) (m + suc v) 1 (ofℕ d ⊗ ten-to p)
 power-reach v m d p s h = record {
-  low = λ z. prove (ofℕ d ∷ ten-to p ∷ ofℕ (10 ^ suc m) ∷ []) (hyp (plit 1) (plit 1) (patom 2 *' patom 1) ∷ hyp (patom 2 *' patom 1) (plit 1) (patom 0) ∷ []) (plit 1) (patom 2 *' (patom 0 *' patom 1)) tt
+  low = λ z. prove (ofℕ d ∷ ten-to p ∷ ofℕ (10 ^ suc m) ∷ [])
+      (hyp (plit 1) (plit 1) (patom 2 *' patom 1) ∷ hyp (patom 2 *' patom 1) (plit 1) (patom 0) ∷ []) (plit 1) (patom 2 *' (patom 0 *' patom 1)) tt
       (ten-low p m h) (ofℕ-≼ (digits z));
-  high = ≼-trans (⊗-mono (ofℕ-≼ (le-of-lt s)) (ten-high p m h)) (≼-trans (≈-ge (ofℕ-⊗ (10 ^ suc v) (10 ^ m))) (ofℕ-≼ (rw (pow-add 10 m (suc v)) (omega arith))));
+  high = ≼-trans (⊗-mono (ofℕ-≼ (le-of-lt s)) (ten-high p m h))
+      (≼-trans (≈-ge (ofℕ-⊗ (10 ^ suc v) (10 ^ m))) (ofℕ-≼ (rw (pow-add 10 m (suc v)) (omega arith))));
 }
   where
     digits : 0 < (ofℕ d ⊗ ten-to p) .num → 0 < d
@@ -193,5 +206,6 @@ reach-mag w N d (pos k) {l} {h} big small r a b =
     omega (arith, exponent-≤ (w + k) h top)
 reach-mag w N d (negsuc k) {l} {h} big small r a b =
     let low : 10 ^ suc k ≤ 10 ^ l * d = omega (arith, r .low (omega (arith, big, pow-pos w)) .le) in
-    let top : 10 ^ suc k < 10 ^ (l + suc w) = rw (pow-add 10 l (suc w), pow-succ' 10 w) (omega (arith, low, mul-lt-mul-of-pos-left small (pow-pos l))) in
+    let top : 10 ^ suc k < 10 ^ (l + suc w) = rw (pow-add 10 l (suc w), pow-succ' 10 w)
+    (omega (arith, low, mul-lt-mul-of-pos-left small (pow-pos l))) in
     omega (arith, exponent-< (suc k) (l + suc w) top)

@@ -1,16 +1,16 @@
 -- The laws of the two roundings to w + 1 digits, over signed fractions: at w = 8 those of figures, at w = 17 those of totals. Assumes nothing.
-use mathlib.Core.Path.{_≡_, refl, sym, _∙_, ap}
-use mathlib.Core.List.{List, [], _∷_}
-use Prim.Native.Nat.{ℕ, zero, suc, _+_, _*_, _-_, _^_, _≤_, _<_}
-use native.Mathlib.Omega.{arith, P, patom, plit}
+use mathlib.Core.Path.{_≡_, refl, _∙_}
+use mathlib.Core.List.{[], _∷_}
+use Prim.Native.Nat.{ℕ, suc, _+_, _^_}
+use native.Mathlib.Omega.{patom, plit}
 use lib.IntN.{ℤ, pos, negsuc, negℤ}
 use Rattle.fraction.specs.Fraction.{Fraction, _≤ᶠ_, _≈ᶠ_, whole, ten, _+ᶠ_, _-ᶠ_, _*ᶠ_}
-use Rattle.fraction.proofs.Ratio.{Ratio, _≼_, _≈_, ofℕ, _⊕_, _⊗_, _⊖_, ≼-refl, ≼-trans, ≈-le, ≈-ge, ≈-trans, ≈-sym, ≈-refl, ⊗-cong, ⊗-mono, ⊗-one, ⊗-cancel, ofℕ-⊕, ofℕ-≼, ofℕ-pos, ⊖-back}
+use Rattle.fraction.proofs.Ratio.{Ratio, _≼_, ofℕ, _⊕_, _⊗_, _⊖_, ≼-refl, ≼-trans, ≈-le, ≈-ge, ⊗-mono, ⊗-one, ⊗-cancel, ofℕ-⊕, ofℕ-≼, ofℕ-pos, ⊖-back}
 use Rattle.fraction.proofs.Certificate.{_+'_, _*'_, prove, hyp}
 use Rattle.fraction.proofs.PowersOfTen.{ten-to}
 use Rattle.fraction.proofs.Signed.{signed, nonnegative, signed-nonnegative, signed-⊕, signed-⊗, signed-⊖, signed-whole, signed-ten}
 use Rattle.figure.specs.declared.Figure.{Figure}
-use Rattle.figure.specs.Rounding.{none, value, IsFigure, IsUp, IsDown, dividend, divisor, floor, ceiling, lowest-power, up-from, down-from, up, down}
+use Rattle.figure.specs.Rounding.{none, value, IsFigure, IsUp, IsDown, up, down}
 use Rattle.figure.proofs.Nonnegative.{≈ᶠ-≤, ≈ᶠ-≥, nonnegative-≼, not-positive}
 use Rattle.figure.proofs.Scale.{pow-pos, power-inverse}
 use Rattle.figure.proofs.Value.{val, value-is, value-≼, val-≼, above-value, below-value, figure-same}
@@ -77,7 +77,8 @@ pub up-respects : (w : ℕ) (x y : Fraction) → x ≈ᶠ y → up (suc w) x ≡
 up-respects w x y e = figure-same w _ _ (up-figure w x) (up-figure w y) (val-≼ _ _ (up-mono w x y (≈ᶠ-≤ e))) (val-≼ _ _ (up-mono w y x (≈ᶠ-≥ e)))
 
 pub down-respects : (w : ℕ) (x y : Fraction) → x ≈ᶠ y → down (suc w) x ≡ down (suc w) y
-down-respects w x y e = figure-same w _ _ (down-figure w x) (down-figure w y) (val-≼ _ _ (down-mono w x y (≈ᶠ-≤ e))) (val-≼ _ _ (down-mono w y x (≈ᶠ-≥ e)))
+down-respects w x y e = figure-same w _ _ (down-figure w x) (down-figure w y) (val-≼ _ _ (down-mono w x y (≈ᶠ-≤ e)))
+    (val-≼ _ _ (down-mono w y x (≈ᶠ-≥ e)))
 
 -- ---- a figure is its own rounding
 
@@ -85,10 +86,12 @@ value-refl : (f : Figure) → value f ≤ᶠ value f
 value-refl f = value-≼ f f (≼-refl _)
 
 pub up-of-figure : (w : ℕ) (f : Figure) → IsFigure (suc w) f → up (suc w) (value f) ≡ f
-up-of-figure w f i = Up.up-unique w (value f) _ f (rw (value-is f) (Up.natural-up w (val f))) (record { is-figure = i; not-below = value-refl f; least = λ g j h. h })
+up-of-figure w f i = Up.up-unique w (value f) _ f (rw (value-is f) (Up.natural-up w (val f)))
+    (record { is-figure = i; not-below = value-refl f; least = λ g j h. h })
 
 pub down-of-figure : (w : ℕ) (f : Figure) → IsFigure (suc w) f → down (suc w) (value f) ≡ f
-down-of-figure w f i = Down.down-unique w (value f) _ f (rw (value-is f) (Down.natural-down w (val f))) (record { is-figure = i; not-above = value-refl f; greatest = λ g j h. h })
+down-of-figure w f i = Down.down-unique w (value f) _ f (rw (value-is f) (Down.natural-down w (val f)))
+    (record { is-figure = i; not-above = value-refl f; greatest = λ g j h. h })
 
 -- ---- a rounding goes at most one part in 10^w away
 
@@ -100,13 +103,16 @@ scale-cancel w h = ⊗-cancel (ofℕ (10 ^ w)) (ofℕ-pos (pow-pos w)) h
 
 natural-up-within : (w : ℕ) (x : Ratio) → val (up (suc w) (signed x)) ≼ x ⊗ (ofℕ 1 ⊕ ten-to (negℤ (pos w)))
 natural-up-within w x = scale-cancel w (prove (ofℕ (10 ^ w) ∷ val (up (suc w) (signed x)) ∷ ofℕ (10 ^ w + 1) ∷ x ∷ ten-to (negℤ (pos w)) ∷ [])
-    (hyp (plit 1) (patom 0 *' patom 1) (patom 2 *' patom 3) ∷ hyp (patom 3) (patom 2) (patom 0 +' plit 1) ∷ hyp (patom 3) (plit 1) (patom 0 *' patom 4) ∷ [])
+    (hyp (plit 1) (patom 0 *' patom 1) (patom 2 *' patom 3) ∷ hyp (patom 3) (patom 2) (patom 0 +' plit 1)
+    ∷ hyp (patom 3) (plit 1) (patom 0 *' patom 4) ∷ [])
     (patom 0 *' patom 1) (patom 0 *' (patom 3 *' (plit 1 +' patom 4))) tt
     (Up.up-near w x) (≈-le (ofℕ-⊕ (10 ^ w) 1)) (≈-ge (power-inverse w)))
 
 natural-down-within : (w : ℕ) (x : Ratio) → x ⊗ (ofℕ 1 ⊖ ten-to (negℤ (pos w))) ≼ val (down (suc w) (signed x))
-natural-down-within w x = scale-cancel w (prove (ofℕ (10 ^ w) ∷ val (down (suc w) (signed x)) ∷ x ∷ ten-to (negℤ (pos w)) ∷ (ofℕ 1 ⊖ ten-to (negℤ (pos w))) ∷ [])
-    (hyp (patom 0 *' patom 2) (patom 4 +' patom 3) (plit 1) ∷ hyp (plit 1) (patom 0 *' patom 2) (patom 0 *' patom 1 +' patom 2) ∷ hyp (patom 2) (plit 1) (patom 0 *' patom 3) ∷ [])
+natural-down-within w x = scale-cancel w
+    (prove (ofℕ (10 ^ w) ∷ val (down (suc w) (signed x)) ∷ x ∷ ten-to (negℤ (pos w)) ∷ (ofℕ 1 ⊖ ten-to (negℤ (pos w))) ∷ [])
+    (hyp (patom 0 *' patom 2) (patom 4 +' patom 3) (plit 1) ∷ hyp (plit 1) (patom 0 *' patom 2) (patom 0 *' patom 1 +' patom 2)
+    ∷ hyp (patom 2) (plit 1) (patom 0 *' patom 3) ∷ [])
     (patom 0 *' (patom 2 *' patom 4)) (patom 0 *' patom 1) tt
     (≈-le (⊖-back (part-small w))) (Down.down-near w x) (≈-ge (power-inverse w)))
 
@@ -118,7 +124,8 @@ up-within w x h = rw (signed-nonnegative h) at (natural (nonnegative x))
     e = negℤ (pos w)
 
     natural : (a : Ratio) → value (up (suc w) (signed a)) ≤ᶠ signed a *ᶠ (whole 1 +ᶠ ten e)
-    natural a = rw (signed-⊗ a (ofℕ 1 ⊕ ten-to e), signed-⊕ (ofℕ 1) (ten-to e), signed-whole 1, signed-ten e) at (above-value _ (natural-up-within w a))
+    natural a = rw (signed-⊗ a (ofℕ 1 ⊕ ten-to e), signed-⊕ (ofℕ 1) (ten-to e), signed-whole 1, signed-ten e) at
+        (above-value _ (natural-up-within w a))
 
 -- x · (1 - 10^-w) ≤ value(down x)
 pub down-within : (w : ℕ) (x : Fraction) → whole 0 ≤ᶠ x → x *ᶠ (whole 1 -ᶠ ten (negℤ (pos w))) ≤ᶠ value (down (suc w) x)

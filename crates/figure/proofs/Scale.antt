@@ -1,10 +1,10 @@
 -- Multiples of powers of ten: how those of one power and of two powers compare. Assumes nothing.
 use mathlib.Core.Path.{_≡_, refl, sym, _∙_, ap}
-use mathlib.Core.List.{List, [], _∷_}
-use mathlib.Core.Logic.{_⊎_, inl, inr, ⊎-elim}
-use Prim.Native.Nat.{ℕ, zero, suc, _+_, _*_, _-_, _^_, _≤_, _<_}
+use mathlib.Core.List.{[], _∷_}
+use mathlib.Core.Logic.{⊎-elim}
+use Prim.Native.Nat.{ℕ, zero, suc, _*_, _^_, _≤_, _<_}
 use native.Mathlib.Nat.{mul-pos, one-le-pow, zero-lt-suc, pow-le-pow-right, pow-succ', lt-of-not-le, not-le-of-lt, le-of-suc-le-suc}
-use native.Mathlib.Omega.{arith, P, patom, plit}
+use native.Mathlib.Omega.{arith, patom}
 use lib.IntN.{ℤ, pos, negsuc, sucℤ, predℤ, negℤ, _+ℤ_, _-ℤ_, +ℤ-idl, +ℤ-sucℤ, sucℤ-+ℤ, +ℤ-comm, -ℤ-+ℤ-cancel, suc-pred, pred-suc, negℤ-negℤ, negℤ-+ℤ, +ℤ-invr}
 use Rattle.fraction.proofs.Ratio.{Ratio, _≼_, _≈_, ofℕ, _⊗_, ≼-refl, ≼-trans, ≈-refl, ≈-sym, ≈-trans, ≈-le, ≈-ge, ⊗-mono, ⊗-cong, ⊗-comm, ⊗-assoc, ofℕ-≼, ofℕ-⊗, ofℕ-≤, ofℕ-pos, ⊗-pos, ⊗-cancel, ≼-or}
 use Rattle.fraction.proofs.Certificate.{_*'_, same-value}
@@ -42,7 +42,9 @@ multiple-pos d e h = ⊗-pos _ _ (ofℕ-pos h) (ten-pos e)
 
 -- a multiple of the next power is ten times as many of this one
 pub ten-step : (c : ℕ) (e : ℤ) → ofℕ c ⊗ ten-to (sucℤ e) ≈ ofℕ (10 * c) ⊗ ten-to e
-ten-step c e = ≈-trans (⊗-cong (≈-refl _) (ten-suc e)) (≈-trans (same-value (ofℕ 10 ∷ ofℕ c ∷ ten-to e ∷ []) (patom 1 *' (patom 0 *' patom 2)) (patom 0 *' patom 1 *' patom 2) tt tt) (⊗-cong (≈-sym (ofℕ-⊗ 10 c)) (≈-refl _)))
+ten-step c e = ≈-trans (⊗-cong (≈-refl _) (ten-suc e))
+    (≈-trans (same-value (ofℕ 10 ∷ ofℕ c ∷ ten-to e ∷ []) (patom 1 *' (patom 0 *' patom 2)) (patom 0 *' patom 1 *' patom 2) tt tt)
+    (⊗-cong (≈-sym (ofℕ-⊗ 10 c)) (≈-refl _)))
 
 -- the same, seen from above
 pub ten-step-down : (c : ℕ) (e : ℤ) → ofℕ c ⊗ ten-to e ≈ ofℕ (10 * c) ⊗ ten-to (predℤ e)
@@ -85,7 +87,8 @@ pub ten-shift : (c k : ℕ) (e : ℤ) → ofℕ (c * 10 ^ k) ⊗ ten-to (e -ℤ 
 ten-shift c k e = ≈-trans (⊗-cong (ofℕ-⊗ c (10 ^ k)) (≈-refl _)) (≈-trans (⊗-assoc _ _ _) (⊗-cong (≈-refl (ofℕ c)) back))
   where
     back : ofℕ (10 ^ k) ⊗ ten-to (e -ℤ pos k) ≈ ten-to e
-    back = ≈-trans (⊗-comm _ _) (≈-trans (⊗-cong (≈-refl _) (≈-sym (ten-nat k))) (≈-trans (≈-sym (ten-+ (e -ℤ pos k) (pos k))) (rw -ℤ-+ℤ-cancel (≈-refl _))))
+    back = ≈-trans (⊗-comm _ _) (≈-trans (⊗-cong (≈-refl _) (≈-sym (ten-nat k)))
+        (≈-trans (≈-sym (ten-+ (e -ℤ pos k) (pos k))) (rw -ℤ-+ℤ-cancel (≈-refl _))))
 
 pub power-inverse : (k : ℕ) → ofℕ (10 ^ k) ⊗ ten-to (negℤ (pos k)) ≈ ofℕ 1
 power-inverse k = ≈-trans (⊗-cong (≈-sym (ten-nat k)) (≈-refl _)) (≈-trans (≈-sym (ten-+ (pos k) (negℤ (pos k)))) (rw (+ℤ-invr (pos k)) ten-zero))

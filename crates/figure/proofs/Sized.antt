@@ -1,17 +1,15 @@
 -- The power of a result, bounded by the powers of the operands: each operation goes at most 20 further. So a caller that chains operations
 -- knows that every figure on the way meets the range that the operations ask for. Assumes nothing.
-use mathlib.Core.Path.{_≡_, refl, sym, _∙_, ap}
+use mathlib.Core.Path.{_≡_, refl}
 use mathlib.Core.Bool.{Bool, true, false, cond}
-use Prim.Native.Nat.{ℕ, zero, suc, _+_, _*_, _-_, _^_, _≤_, _<_, max}
+use Prim.Native.Nat.{ℕ, zero, suc, _+_, _-_, _^_, _≤_, _<_, max}
 use native.Mathlib.Nat.{le-trans, le-of-lt, lt-irrefl, pow-succ'}
 use native.Mathlib.Omega.{arith}
 use lib.Dec.{ltb, leb→le, lit≤}
 use lib.IntN.{ℤ, pos, negsuc, _+ℤ_, subℕ}
 use lib.Signed.{mag, _≤ℤ_}
-use Rattle.fraction.specs.Fraction.{Fraction, _≤ᶠ_, whole, ratio}
-use Rattle.fraction.proofs.Ratio.{Ratio, _≼_, _≈_, ofℕ, _⊕_, _⊗_, _⊖_, ≼-refl, ≼-trans, ≈-le, ≈-ge, ⊗-mono, ⊗-one, ⊗-comm, ⊗-pos, ofℕ-≼, ofℕ-pos, pos-≼}
+use Rattle.fraction.proofs.Ratio.{Ratio, _≈_, ofℕ, _⊕_, _⊗_, _⊖_, ≼-refl, ≼-trans, ≈-le, ≈-ge, ⊗-mono, ⊗-one, ⊗-pos, ofℕ-≼, ofℕ-pos, pos-≼}
 use Rattle.fraction.proofs.Inverse.{inv, _over_, over-is}
-use Rattle.fraction.proofs.PowersOfTen.{ten-to}
 use Rattle.fraction.proofs.Signed.{signed, signed-whole, signed-ratio}
 use Rattle.figure.specs.declared.Figure.{Figure}
 use Rattle.figure.specs.Rounding.{figure, none, IsFigure, is-zero, is-whole, up, down}
@@ -21,7 +19,7 @@ use Rattle.figure.proofs.Scale.{pow-pos, multiple-pos}
 use Rattle.figure.proofs.Value.{val, value-is, Shape, empty, full, shape}
 use Rattle.figure.proofs.Rounding.{up-figure, down-figure}
 use Rattle.figure.proofs.Operations.{value-times, value-plus, value-divided, up-minus, down-minus}
-use Rattle.figure.proofs.Reach.{Reach, Multiple, reach-wide, reach-one, reach-≤, reach-⊗, reach-⊕, reach-inv, reach-⊖, reach-up, reach-down, power-reach, power-multiple, reach-mag}
+use Rattle.figure.proofs.Reach.{Reach, Multiple, reach-one, reach-≤, reach-⊗, reach-⊕, reach-inv, reach-⊖, reach-up, reach-down, power-reach, power-multiple, reach-mag}
 
 -- ---- the range that operations ask for
 
@@ -75,7 +73,8 @@ module _ {v w m n : ℕ} {a b : Figure} (p : Sized (suc v) m a) (q : Sized (suc 
   quotient-reach z = reach-⊗ (sized-reach p) (reach-inv (multiple-pos (b .digits) (b .power) z) (sized-reach q))
 
   sum-reach : Reach (suc (max m n)) (max m n + suc (max v w) + 1) 1 (val a ⊕ val b)
-  sum-reach = reach-one 1 (lit≤ tt) (reach-⊕ {n = 1} {n′ = 1} (reach-≤ (omega arith) (omega arith) (sized-reach p)) (reach-≤ (omega arith) (omega arith) (sized-reach q)))
+  sum-reach = reach-one 1 (lit≤ tt) (reach-⊕ {n = 1} {n′ = 1} (reach-≤ (omega arith) (omega arith) (sized-reach p))
+      (reach-≤ (omega arith) (omega arith) (sized-reach q)))
 
   difference-reach : Reach (suc (max m n)) (m + suc v) 1 (val a ⊖ val b)
   difference-reach = reach-⊖ (sized-multiple (max m n) (omega arith) p) (sized-multiple (max m n) (omega arith) q) (sized-reach p)
@@ -163,7 +162,8 @@ pub times-ten-sized : {K n : ℕ} {a : Figure} (p : ℤ) → Sized K n a → Siz
 unfolding times-ten
 times-ten-sized {K} {n} {a} p s = go (a .digits) refl (s .is-figure)
   where
-    go : (d : ℕ) → a .digits ≡ d → IsFigure K a → Sized K (n + mag p + 1) (elim d as (λ _. Figure) [ zero ↦ none | suc d ↦ figure (suc d) (a .power +ℤ p) ])
+    go : (d : ℕ) → a .digits ≡ d → IsFigure K a
+        → Sized K (n + mag p + 1) (elim d as (λ _. Figure) [ zero ↦ none | suc d ↦ figure (suc d) (a .power +ℤ p) ])
     go zero e i = record { is-figure = is-zero refl refl; near = omega arith }
     go (suc d) e (is-zero z _) = absurd (lt-irrefl 0 (omega arith))
     go (suc d) e (is-whole b t) = record { is-figure = is-whole (rw e at b) (rw e at t); near = omega (arith, mag-plus (a .power) p, s .near) }

@@ -1,19 +1,19 @@
 -- Rounding up to w + 1 digits: what is computed is the least figure not below x, and is at most one part in 10^w above it. Stated over
 -- fractions with natural numerators; `Rounding` has the statements over signed ones. Assumes nothing.
-use mathlib.Core.Path.{_≡_, refl, sym, _∙_, ap}
-use mathlib.Core.List.{List, [], _∷_}
+use mathlib.Core.Path.{_≡_, refl}
+use mathlib.Core.List.{[], _∷_}
 use mathlib.Core.Bool.{Bool, true, false, not}
-use mathlib.Core.Logic.{_⊎_, inl, inr, ⊎-elim}
+use mathlib.Core.Logic.{⊎-elim}
 use Prim.Native.Nat.{ℕ, zero, suc, _+_, _*_, _-_, _^_, _≤_, _<_}
 use native.Mathlib.Nat.{le-trans, pow-succ', zero-lt-suc, lt-irrefl, le-of-lt, eq-or-lt-of-le}
-use native.Mathlib.Omega.{arith, by-contra, P, patom, plit}
+use native.Mathlib.Omega.{arith, by-contra, patom, plit}
 use lib.Dec.{T, T-not, ltb, ltb→lt, nltb→le, eqb, eqb→eq, eqb-refl}
 use lib.Arith.{lt-of-le-ne}
-use lib.IntN.{ℤ, pos, negsuc, sucℤ, predℤ, _+ℤ_, +ℤ-idr, +ℤ-sucℤ, sucℤ-+ℤ, suc-pred, pred-suc, +ℤ-one}
+use lib.IntN.{ℤ, pos, sucℤ, predℤ, _+ℤ_, +ℤ-idr, +ℤ-sucℤ, sucℤ-+ℤ, pred-suc, +ℤ-one}
 use Rattle.fraction.specs.Fraction.{Fraction}
-use Rattle.fraction.proofs.Ratio.{Ratio, _≼_, _≈_, ofℕ, _⊗_, ≼-refl, ≼-trans, ≈-le, ≈-ge, ⊗-mono, ofℕ-≼, ofℕ-⊕, ⊗-zero, zero-≼, pos-≼}
+use Rattle.fraction.proofs.Ratio.{Ratio, _≼_, ofℕ, _⊗_, ≼-refl, ≼-trans, ≈-le, ≈-ge, ⊗-mono, ofℕ-≼, ofℕ-⊕, ⊗-zero, zero-≼, pos-≼}
 use Rattle.fraction.proofs.Certificate.{_+'_, _*'_, prove, hyp}
-use Rattle.fraction.proofs.PowersOfTen.{ten-to, ten-pos}
+use Rattle.fraction.proofs.PowersOfTen.{ten-to}
 use Rattle.fraction.proofs.Signed.{signed}
 use Rattle.figure.specs.declared.Figure.{Figure}
 use Rattle.figure.specs.Rounding.{figure, none, IsFigure, is-zero, IsUp, ceiling, up-from, up}
@@ -49,12 +49,14 @@ from-tight w zero x e a h = rw (low-end w) (record {
   tight = beyond-big w x e a;
   beyond = a;
 })
-from-tight w (suc k) x e a h = go (ltb D (10 ^ suc w)) (λ t. rw (pow-succ' 10 w) at (ltb→lt D (10 ^ suc w) t)) (λ t. rw (pow-succ' 10 w) at (nltb→le D (10 ^ suc w) t)) (from-tight w k x (sucℤ e))
+from-tight w (suc k) x e a h = go (ltb D (10 ^ suc w)) (λ t. rw (pow-succ' 10 w) at (ltb→lt D (10 ^ suc w) t))
+    (λ t. rw (pow-succ' 10 w) at (nltb→le D (10 ^ suc w) t)) (from-tight w k x (sucℤ e))
   where
     D : ℕ
     D = ceiling (signed x) e
 
-    go : (b : Bool) → (T b → D < 10 * 10 ^ w) → (T (not b) → 10 * 10 ^ w ≤ D) → (Beyond w x (sucℤ e) → x ≼ ofℕ (10 ^ w) ⊗ ten-to (sucℤ e +ℤ pos k) → Tight w x (up-from (suc w) k (signed x) (sucℤ e)))
+    go : (b : Bool) → (T b → D < 10 * 10 ^ w) → (T (not b) → 10 * 10 ^ w ≤ D)
+        → (Beyond w x (sucℤ e) → x ≼ ofℕ (10 ^ w) ⊗ ten-to (sucℤ e +ℤ pos k) → Tight w x (up-from (suc w) k (signed x) (sucℤ e)))
         → Tight w x (elim b as (λ _. Figure) [ true ↦ figure D e | false ↦ up-from (suc w) k (signed x) (sucℤ e) ])
     go true p q f = record {
       big = beyond-big w x e a D (ceiling-reach x e);
@@ -63,7 +65,8 @@ from-tight w (suc k) x e a h = go (ltb D (10 ^ suc w)) (λ t. rw (pow-succ' 10 w
       tight = ceiling-least x e;
       beyond = a;
     }
-    go false p q f = f (λ c l u. lt-irrefl _ (le-trans l (le-trans (q tt) (ceiling-least x e c (rw pred-suc at u))))) (rw (sucℤ-+ℤ, ← +ℤ-sucℤ e (pos k)) h)
+    go false p q f = f (λ c l u. lt-irrefl _ (le-trans l (le-trans (q tt) (ceiling-least x e c (rw pred-suc at u)))))
+        (rw (sucℤ-+ℤ, ← +ℤ-sucℤ e (pos k)) h)
 
 pub up-tight : (w : ℕ) (x : Ratio) → 0 < x .num → Tight w x (up (suc w) (signed x))
 unfolding up signed Beyond
@@ -72,7 +75,8 @@ up-tight w x pos-x = go (x .num) pos-x (from-tight w 2 x (start w x) (start-not-
     high : x ≼ ofℕ (10 ^ w) ⊗ ten-to (start w x +ℤ pos 2)
     high = rw (+ℤ-sucℤ (start w x) (pos 1), +ℤ-sucℤ (start w x) (pos 0), +ℤ-idr (start w x)) (start-high w x)
 
-    go : (n : ℕ) → 0 < n → Tight w x (up-from (suc w) 2 (signed x) (start w x)) → Tight w x (elim n as (λ _. Figure) [ zero ↦ none | suc _ ↦ up-from (suc w) 2 (signed x) (start w x) ])
+    go : (n : ℕ) → 0 < n → Tight w x (up-from (suc w) 2 (signed x) (start w x))
+        → Tight w x (elim n as (λ _. Figure) [ zero ↦ none | suc _ ↦ up-from (suc w) 2 (signed x) (start w x) ])
     go zero h t = absurd (lt-irrefl 0 h)
     go (suc n) h t = t
 
@@ -80,14 +84,14 @@ tight-least : (w : ℕ) (x : Ratio) (f : Figure) → Tight w x f → 0 < x .num 
 unfolding Beyond
 tight-least w x f t pos-x g i h = go (shape i)
   where
-    at : 10 ^ w ≤ g .digits → g .digits < 10 * 10 ^ w → Powers (g .power) (f .power) → val f ≼ val g
-    at b s (same-power r) = rw r (multiple-≼ (f .power) (t .tight (g .digits) (rw r at h)))
-    at b s (lower k r) = absurd (t .beyond (g .digits) s (≼-trans h (rw r (lower-≼ (g .digits) (g .power) k))))
-    at b s (higher k r) = ≼-trans (multiple-≼ (f .power) (le-of-lt (t .small))) (rw r (higher-≼ (10 ^ w) (g .digits) (f .power) k b))
+    by-power : 10 ^ w ≤ g .digits → g .digits < 10 * 10 ^ w → Powers (g .power) (f .power) → val f ≼ val g
+    by-power b s (same-power r) = rw r (multiple-≼ (f .power) (t .tight (g .digits) (rw r at h)))
+    by-power b s (lower k r) = absurd (t .beyond (g .digits) s (≼-trans h (rw r (lower-≼ (g .digits) (g .power) k))))
+    by-power b s (higher k r) = ≼-trans (multiple-≼ (f .power) (le-of-lt (t .small))) (rw r (higher-≼ (10 ^ w) (g .digits) (f .power) k b))
 
     go : Shape w g → val f ≼ val g
     go (empty z z′) = absurd (not-zero x (g .power) pos-x (rw z at h))
-    go (full b s) = at b s (powers (g .power) (f .power))
+    go (full b s) = by-power b s (powers (g .power) (f .power))
 
 pub tight-is-up : (w : ℕ) (x : Ratio) (f : Figure) → Tight w x f → 0 < x .num → IsUp (suc w) (signed x) f
 tight-is-up w x f t pos-x = record {
@@ -117,7 +121,8 @@ natural-up w x = go (x .num) refl
     go (suc n) z = let p : 0 < x .num = rw z (zero-lt-suc n) in tight-is-up w x _ (up-tight w x p) p
 
 pub up-unique : (w : ℕ) (x : Fraction) (f g : Figure) → IsUp (suc w) x f → IsUp (suc w) x g → f ≡ g
-up-unique w x f g a b = figure-same w f g (a .is-figure) (b .is-figure) (val-≼ f g (a .least g (b .is-figure) (b .not-below))) (val-≼ g f (b .least f (a .is-figure) (a .not-below)))
+up-unique w x f g a b = figure-same w f g (a .is-figure) (b .is-figure) (val-≼ f g (a .least g (b .is-figure) (b .not-below)))
+    (val-≼ g f (b .least f (a .is-figure) (a .not-below)))
 
 -- what is below is rounded below
 pub natural-up-mono : (w : ℕ) {x y : Ratio} → x ≼ y → val (up (suc w) (signed x)) ≼ val (up (suc w) (signed y))
@@ -137,14 +142,17 @@ abbrev pub carried : ℕ → ℕ → ℤ → Figure
 carried w d e = elim (eqb d (10 * 10 ^ w)) [ true ↦ figure (10 ^ w) (e +ℤ pos 1) | false ↦ figure d e ]
 
 -- x is at least 10^w times 10^e, and D, of at most w + 1 digits or 10^(w + 1), is the least multiple of 10^e that reaches it
-pub round-up : (w : ℕ) (x : Ratio) (D : ℕ) (e : ℤ) → ofℕ (10 ^ w) ⊗ ten-to e ≼ x → x ≼ ofℕ D ⊗ ten-to e → ((c : ℕ) → x ≼ ofℕ c ⊗ ten-to e → D ≤ c) → D ≤ 10 * 10 ^ w → carried w D e ≡ up (suc w) (signed x)
+pub round-up : (w : ℕ) (x : Ratio) (D : ℕ) (e : ℤ) → ofℕ (10 ^ w) ⊗ ten-to e ≼ x → x ≼ ofℕ D ⊗ ten-to e → ((c : ℕ) → x ≼ ofℕ c ⊗ ten-to e → D ≤ c)
+    → D ≤ 10 * 10 ^ w → carried w D e ≡ up (suc w) (signed x)
 unfolding Beyond
-round-up w x D e low reach least top = go (eqb D (10 * 10 ^ w)) (eqb→eq D (10 * 10 ^ w)) (λ t z. T-not (eqb D (10 * 10 ^ w)) t (rw z (eqb-refl (10 * 10 ^ w))))
+round-up w x D e low reach least top = go (eqb D (10 * 10 ^ w)) (eqb→eq D (10 * 10 ^ w))
+    (λ t z. T-not (eqb D (10 * 10 ^ w)) t (rw z (eqb-refl (10 * 10 ^ w))))
   where
     pos-x : 0 < x .num
     pos-x = pos-≼ low (multiple-pos (10 ^ w) e (pow-pos w))
 
-    go : (b : Bool) → (T b → D ≡ 10 * 10 ^ w) → (T (not b) → D ≡ 10 * 10 ^ w → ⊥) → elim b as (λ _. Figure) [ true ↦ figure (10 ^ w) (e +ℤ pos 1) | false ↦ figure D e ] ≡ up (suc w) (signed x)
+    go : (b : Bool) → (T b → D ≡ 10 * 10 ^ w) → (T (not b) → D ≡ 10 * 10 ^ w → ⊥)
+        → elim b as (λ _. Figure) [ true ↦ figure (10 ^ w) (e +ℤ pos 1) | false ↦ figure D e ] ≡ up (suc w) (signed x)
     go true p q = rw +ℤ-one (tight-up w x (figure (10 ^ w) (sucℤ e)) pos-x (record {
       big = omega arith;
       small = omega (arith, pow-pos w);
@@ -164,7 +172,8 @@ round-up w x D e low reach least top = go (eqb D (10 * 10 ^ w)) (eqb→eq D (10 
 
 one-part : (x y : Ratio) (c L : ℕ) → ofℕ c ⊗ y ≼ x → L ≤ c → ofℕ L ⊗ (ofℕ (c + 1) ⊗ y) ≼ ofℕ (L + 1) ⊗ x
 one-part x y c L h l = prove (ofℕ c ∷ y ∷ ofℕ L ∷ x ∷ ofℕ (c + 1) ∷ ofℕ (L + 1) ∷ [])
-    (hyp (patom 2 +' plit 1) (patom 0 *' patom 1) (patom 3) ∷ hyp (patom 1) (patom 2) (patom 0) ∷ hyp (patom 2 *' patom 1) (patom 4) (patom 0 +' plit 1) ∷ hyp (patom 3) (patom 2 +' plit 1) (patom 5) ∷ [])
+    (hyp (patom 2 +' plit 1) (patom 0 *' patom 1) (patom 3) ∷ hyp (patom 1) (patom 2) (patom 0)
+    ∷ hyp (patom 2 *' patom 1) (patom 4) (patom 0 +' plit 1) ∷ hyp (patom 3) (patom 2 +' plit 1) (patom 5) ∷ [])
     (patom 2 *' (patom 4 *' patom 1)) (patom 5 *' patom 3) tt
     h (ofℕ-≼ l) (≈-le (ofℕ-⊕ c 1)) (≈-ge (ofℕ-⊕ L 1))
 
@@ -177,16 +186,19 @@ tight-near w x f t = ⊎-elim one-power-lower less (eq-or-lt-of-le (t .big))
 
     less : 10 ^ w < f .digits → ofℕ (10 ^ w) ⊗ val f ≼ ofℕ (10 ^ w + 1) ⊗ x
     less h = let d : f .digits - 1 + 1 ≡ f .digits = omega arith in
-        rw d at (one-part x (ten-to e) (f .digits - 1) (10 ^ w) (not-≼ x _ (λ u. lt-irrefl (f .digits) (omega (arith, t .tight (f .digits - 1) u)))) (omega arith))
+        rw d at (one-part x (ten-to e) (f .digits - 1) (10 ^ w) (not-≼ x _ (λ u. lt-irrefl (f .digits) (omega (arith, t .tight (f .digits - 1) u))))
+        (omega arith))
 
     one-power-lower : 10 ^ w ≡ f .digits → ofℕ (10 ^ w) ⊗ val f ≼ ofℕ (10 ^ w + 1) ⊗ x
     one-power-lower h = let d : 10 * 10 ^ w - 1 + 1 ≡ 10 * 10 ^ w = omega (arith, pow-pos w) in
-        let k = one-part x (ten-to (predℤ e)) (10 * 10 ^ w - 1) (10 ^ w) (not-≼ x _ (λ u. t .beyond (10 * 10 ^ w - 1) (omega (arith, pow-pos w)) u)) (omega (arith, pow-pos w)) in
+        let k = one-part x (ten-to (predℤ e)) (10 * 10 ^ w - 1) (10 ^ w) (not-≼ x _ (λ u. t .beyond (10 * 10 ^ w - 1) (omega (arith, pow-pos w)) u))
+        (omega (arith, pow-pos w)) in
         ≼-trans (⊗-mono (≼-refl _) (rw (← h) (≈-le (ten-step-down (10 ^ w) e)))) (rw d at k)
 
 pub up-near : (w : ℕ) (x : Ratio) → ofℕ (10 ^ w) ⊗ val (up (suc w) (signed x)) ≼ ofℕ (10 ^ w + 1) ⊗ x
 up-near w x = go (x .num) refl
   where
     go : (n : ℕ) → x .num ≡ n → ofℕ (10 ^ w) ⊗ val (up (suc w) (signed x)) ≼ ofℕ (10 ^ w + 1) ⊗ x
-    go zero z = rw (up-zero (suc w) x z) (prove (ofℕ (10 ^ w) ∷ ten-to (pos 0) ∷ ofℕ (10 ^ w + 1) ∷ x ∷ []) [] (patom 0 *' (plit 0 *' patom 1)) (patom 2 *' patom 3) tt)
+    go zero z = rw (up-zero (suc w) x z)
+        (prove (ofℕ (10 ^ w) ∷ ten-to (pos 0) ∷ ofℕ (10 ^ w + 1) ∷ x ∷ []) [] (patom 0 *' (plit 0 *' patom 1)) (patom 2 *' patom 3) tt)
     go (suc n) z = tight-near w x _ (up-tight w x (rw z (zero-lt-suc n)))

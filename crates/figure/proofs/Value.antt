@@ -1,10 +1,10 @@
 -- The value of a figure as a fraction with a natural numerator, and that a figure's value settles the figure. K is w + 1. Assumes nothing.
-use mathlib.Core.Path.{_≡_, refl, sym, _∙_, ap, ap₂}
-use Prim.Native.Nat.{ℕ, zero, suc, _+_, _*_, _-_, _^_, _≤_, _<_}
+use mathlib.Core.Path.{_≡_, sym, _∙_, ap, ap₂}
+use Prim.Native.Nat.{ℕ, suc, _*_, _-_, _^_, _≤_, _<_}
 use native.Mathlib.Nat.{le-trans, le-antisymm, not-le-of-lt, pow-succ'}
 use native.Mathlib.Omega.{arith}
-use lib.IntN.{ℤ, pos, _+ℤ_}
-use Rattle.fraction.specs.Fraction.{Fraction, _≤ᶠ_, whole, ten, _*ᶠ_}
+use lib.IntN.{pos}
+use Rattle.fraction.specs.Fraction.{_≤ᶠ_, _*ᶠ_}
 use Rattle.fraction.proofs.Ratio.{Ratio, _≼_, ofℕ, _⊗_, ≼-trans}
 use Rattle.fraction.proofs.PowersOfTen.{ten-to}
 use Rattle.fraction.proofs.Signed.{signed, signed-≼, ≼-signed, signed-⊗, signed-whole, signed-ten}
@@ -66,8 +66,10 @@ figure-same w f g i j p q = go (shape i) (shape j)
 
     both : 10 ^ w ≤ f .digits → f .digits < 10 * 10 ^ w → 10 ^ w ≤ g .digits → g .digits < 10 * 10 ^ w → Powers (f .power) (g .power) → f ≡ g
     both a b c d (same-power r) = ap₂ figure (le-antisymm (multiple-≤ _ _ (g .power) (rw r at p)) (multiple-≤ _ _ (g .power) (rw r at q))) r
-    both a b c d (lower k r) = absurd (not-le-of-lt b (multiple-≤ _ _ (f .power) (≼-trans (higher-≼ (10 ^ w) (g .digits) (f .power) k c) (rw r at q))))
-    both a b c d (higher k r) = absurd (not-le-of-lt d (multiple-≤ _ _ (g .power) (≼-trans (higher-≼ (10 ^ w) (f .digits) (g .power) k a) (rw r at p))))
+    both a b c d (lower k r) = absurd (not-le-of-lt b
+        (multiple-≤ _ _ (f .power) (≼-trans (higher-≼ (10 ^ w) (g .digits) (f .power) k c) (rw r at q))))
+    both a b c d (higher k r) = absurd (not-le-of-lt d
+        (multiple-≤ _ _ (g .power) (≼-trans (higher-≼ (10 ^ w) (f .digits) (g .power) k a) (rw r at p))))
 
     go : Shape w f → Shape w g → f ≡ g
     go (empty a b) (empty c d) = ap₂ figure (a ∙ sym c) (b ∙ sym d)
