@@ -1,14 +1,15 @@
 -- The laws of the two roundings to w + 1 digits, over signed fractions: at w = 8 those of figures, at w = 17 those of totals. Assumes nothing.
 use mathlib.Core.Path.{_≡_, refl, _∙_}
 use mathlib.Core.List.{[], _∷_}
-use Prim.Native.Nat.{ℕ, suc, _+_, _^_}
+use Prim.Native.Nat.{ℕ, suc, _+_, _^_, _<_}
 use native.Mathlib.Omega.{patom, plit}
 use lib.IntN.{ℤ, pos, negsuc, negℤ}
+use lib.Signed.{_<ℤ_}
 use Rattle.fraction.specs.Fraction.{Fraction, _≤ᶠ_, _≈ᶠ_, whole, ten, _+ᶠ_, _-ᶠ_, _*ᶠ_}
 use Rattle.fraction.proofs.Ratio.{Ratio, _≼_, ofℕ, _⊕_, _⊗_, _⊖_, ≼-refl, ≼-trans, ≈-le, ≈-ge, ⊗-mono, ⊗-one, ⊗-cancel, ofℕ-⊕, ofℕ-≼, ofℕ-pos, ⊖-back}
 use Rattle.fraction.proofs.Certificate.{_+'_, _*'_, prove, hyp}
 use Rattle.fraction.proofs.PowersOfTen.{ten-to}
-use Rattle.fraction.proofs.Signed.{signed, nonnegative, signed-nonnegative, signed-⊕, signed-⊗, signed-⊖, signed-whole, signed-ten}
+use Rattle.fraction.proofs.Signed.{signed, nonnegative, nonnegative-positive, signed-nonnegative, signed-⊕, signed-⊗, signed-⊖, signed-whole, signed-ten}
 use Rattle.figure.specs.declared.Figure.{Figure}
 use Rattle.figure.specs.Rounding.{none, value, IsFigure, IsUp, IsDown, up, down}
 use Rattle.figure.proofs.Nonnegative.{≈ᶠ-≤, ≈ᶠ-≥, nonnegative-≼, not-positive}
@@ -64,6 +65,14 @@ up-figure w x = rw (up-natural (suc w) x) (Up.natural-up w (nonnegative x) .is-f
 
 pub down-figure : (w : ℕ) (x : Fraction) → IsFigure (suc w) (down (suc w) x)
 down-figure w x = rw (down-natural (suc w) x) (Down.natural-down w (nonnegative x) .is-figure)
+
+-- what is positive is not rounded to 0
+
+pub up-positive : (w : ℕ) (x : Fraction) → pos 0 <ℤ x .num → 0 < (up (suc w) x) .digits
+up-positive w x h = rw (up-natural (suc w) x) (Up.up-pos w (nonnegative x) (nonnegative-positive x h))
+
+pub down-positive : (w : ℕ) (x : Fraction) → pos 0 <ℤ x .num → 0 < (down (suc w) x) .digits
+down-positive w x h = rw (down-natural (suc w) x) (Down.down-pos w (nonnegative x) (nonnegative-positive x h))
 
 -- ---- the order, and equality as fractions
 

@@ -25,7 +25,7 @@ use Rattle.figure.proofs.Value.{val, below-value, below-val, value-≼,
 -- ---- a figure is the least not below x, said of its digits and its power
 
 -- no multiple of the power before e, of at most w + 1 digits, reaches x
-pub Beyond : ℕ → Ratio → ℤ → Type 0
+unfoldable pub Beyond : ℕ → Ratio → ℤ → Type 0
 Beyond w x e = (c : ℕ) → c < 10 * 10 ^ w → ¬ (x ≼ ofℕ c ⊗ ten-to (predℤ e))
 
 pub record Tight (w : ℕ) (x : Ratio) (f : Figure) : Type 0 where
