@@ -1,5 +1,5 @@
--- The power of a result, bounded by the powers of the operands: each operation goes at most 20 further. So a caller that chains operations
--- knows that every figure on the way meets the range that the operations ask for. Assumes nothing.
+-- The power of a result, bounded by the powers of the operands: at most 20 beyond their sum for a product or a quotient, beyond the larger for
+-- a sum or a difference. So a caller that chains operations knows that every figure on the way is an operand. Assumes nothing.
 use mathlib.Core.Path.{_≡_, refl}
 use mathlib.Core.Bool.{Bool, true, false, cond}
 use Prim.Native.Nat.{ℕ, zero, suc, _+_, _-_, _^_, _≤_, _<_, max}
