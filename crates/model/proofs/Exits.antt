@@ -1,17 +1,19 @@
 -- Laws of a state's exits and of the indexes under which they stand in the table. Assumes nothing.
 use Prim.Native.Nat.{ℕ, suc, _+_, _≤_, _<_}
 use mathlib.Core.Path.{_≡_, refl, sym, ap, _∙_}
-use mathlib.Core.Bool.{Bool, true, false, not}
+use mathlib.Core.Bool.{Bool, true, false, not, _&&_, and-false}
 use mathlib.Core.List.{List, [], _∷_, _++_, map, List·Memᴰ, append-nil}
 use native.Mathlib.Nat.{suc-add, add-suc, add-zero, zero-add}
 use native.Mathlib.Omega.{arith}
 use lib.ListN.{length, getD, length-append}
 use lib.Seq.{getD-at, append-snoc}
+use lib.Dec.{eqb}
 use borrow.Author.Tests.{eqb-true, eq-eqb, ne-eqb}
-use Rattle.model.specs.Model.{Transition, Model, is-fast, only, leaves, exits-in, exits, has-fast}
+use Rattle.model.specs.Model.{Transition, Model, is-fast, only, any, leaves, exits-in, exits, has-fast}
+use Rattle.model.specs.Faults.{same-test, same-transition}
 use Rattle.model.specs.Index.{exit-indexes, no-transition}
 use Rattle.model.proofs.Valid.{Each, Valid}
-use Rattle.model.proofs.Members.{each-monotone, each-lookup, only-pass, only-fail, only-append, only-length, only-passes, only-from, only-keeps, only-split, each-only, any-none, any-some, some-any, some-count, lookup-map}
+use Rattle.model.proofs.Members.{each-monotone, each-lookup, only-pass, only-fail, only-append, only-length, only-passes, only-from, only-keeps, only-split, each-only, any-none, any-some, some-any, some-count, any-only, lookup-map}
 
 -- ---- exits
 
@@ -55,6 +57,13 @@ module _ (table : List Transition) (s : ℕ) where
       exits-append (t ∷ [])
       ∙ ap (λ (l : List Transition). exits-in table s ++ l) (only-fail (leaves s) t [] (ne-eqb (t .from) s n))
       ∙ append-nil (exits-in table s)
+
+-- the same transition can stand only among the exits of the state that it leaves
+pub same-in-exits : (fast? : Bool) (a b : ℕ) (table : List Transition)
+    → any (same-transition fast? a b) table ≡ any (same-transition fast? a b) (exits-in table a)
+unfolding exits-in
+same-in-exits fast? a b = any-only (same-transition fast? a b) (leaves a)
+    (λ t e. ap (λ (x : Bool). same-test fast? (is-fast (t .manner)) && (x && eqb (t .to) b)) e ∙ and-false (same-test fast? (is-fast (t .manner))))
 
 -- ---- the indexes
 

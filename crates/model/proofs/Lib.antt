@@ -4,5 +4,6 @@ pub mod Exits
 pub mod Slots
 pub mod Refusals
 pub mod Growing
+pub mod IndexGrowth
 pub mod ReadValid
 pub mod FirstFault

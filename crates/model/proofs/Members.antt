@@ -1,5 +1,5 @@
 -- Laws of `Each`, `only`, `any` and `is-empty` over any list. Assumes nothing.
-use Prim.Native.Nat.{ℕ, zero, suc, _+_, _≤_, _<_}
+use Prim.Native.Nat.{ℕ, zero, suc, _+_, _≤_, _<_, suc-le-suc}
 use mathlib.Core.Path.{_≡_, refl, sym, ap, _∙_, subst}
 use mathlib.Core.Bool.{Bool, true, false, not, _||_, true≢false, false≢true, or-true, or-assoc}
 use mathlib.Core.Logic.{_⊎_, inl, inr}
@@ -49,6 +49,11 @@ module _ {A : Type 0} where
   unfolding Each
   each-of-members Q [] h = tt
   each-of-members Q (x ∷ xs) h = (h x (List·Memᴰ·head refl), each-of-members Q xs (λ a k. h a (List·Memᴰ·tail k)))
+
+  pub each-of-lookups : (Q : A → Type 0) (xs : List A) (d : A) → ((i : ℕ) → i < length xs → Q (getD xs i d)) → Each Q xs
+  unfolding Each
+  each-of-lookups Q [] d h = tt
+  each-of-lookups Q (x ∷ xs) d h = (h zero (omega arith), each-of-lookups Q xs d (λ i k. h (suc i) (suc-le-suc k)))
 
   -- a member stands at some place
   pub lookup-member : (xs : List A) (i : ℕ) (d : A) → i < length xs → List·Memᴰ (getD xs i d) xs
@@ -166,6 +171,13 @@ module _ {A : Type 0} where
 
     pub some-count : (xs : List A) → any test xs ≡ true → 1 ≤ length (only test xs)
     some-count xs h = ltb-true 0 (length (only test xs)) (sym (any-count xs) ∙ h)
+
+    -- what fails `rest` cannot pass `test`: only those that pass `rest` need be asked
+    pub any-only : (rest : A → Bool) → ((x : A) → rest x ≡ false → test x ≡ false) → (xs : List A) → any test xs ≡ any test (only rest xs)
+    unfolding any
+    any-only rest fails = only-induct rest (λ l k. any test l ≡ any test k) refl
+        (λ x l k e h. ap (λ (b : Bool). test x || b) h)
+        (λ x l k e h. ap (λ (b : Bool). b || any test l) (fails x e) ∙ h)
 
   pub is-empty-length : (xs : List A) → is-empty xs ≡ eqb (length xs) 0
   is-empty-length [] = refl
