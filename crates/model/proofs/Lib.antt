@@ -7,3 +7,5 @@ pub mod Growing
 pub mod IndexGrowth
 pub mod ReadValid
 pub mod FirstFault
+pub mod Steps
+pub mod Asked

@@ -11,6 +11,8 @@ use Rattle.model.specs.declared.Refusal.{Refusal}
 use Rattle.model.specs.declared.Accepted.{Accepted}
 use Rattle.model.specs.declared.Verdict.{Verdict}
 use Rattle.model.specs.declared.Verdict.the-variants.{Fine, Refused as refusal}
+use Rattle.model.specs.declared.opening.Opening.{Opening}
+use Rattle.model.specs.declared.opening.Opening.the-variants.{Opened, Refused as unopened}
 use Rattle.model.specs.Model.{Transition, Net, Limits, Model, any, exits, has-fast, probability-sum}
 use Rattle.model.specs.Words.{kind, from-field, to-field, transition-rest, end-rest}
 use Rattle.model.specs.Faults.{Fault, _gives_, outside, differs, head-faults, quantity-faults, caps-faults, end-faults}
@@ -35,10 +37,10 @@ unfoldable pub word-answer : (ℕ → List Fault) → ℕ → List ℕ → Answe
 word-answer faults i [] = refused 3 i
 word-answer faults i (w ∷ ws) = first-fault (faults w) i
 
--- the same for one word after the other
+-- the same for one word after the other, from place i of the words on
 unfoldable pub words-answer : List (ℕ → List Fault) → ℕ → List ℕ → Answer (Unit {0})
 words-answer [] i ws = granted tt
-words-answer (faults ∷ rest) i ws = then (word-answer faults i ws) (λ _. words-answer rest (suc i) (drop 1 ws))
+words-answer (faults ∷ rest) i ws = then (word-answer faults i (drop i ws)) (λ _. words-answer rest (suc i) ws)
 
 -- the first four words
 abbrev pub opening-faults : List (ℕ → List Fault)
@@ -56,3 +58,23 @@ field-faults states w =
     ∷ (outside 1 states (from-field w) || outside 1 states (to-field w) gives 6)
     ∷ (eqb (from-field w) (to-field w) gives 7)
     ∷ []
+
+-- ---- the reading so far
+
+-- the words are refused
+abbrev pub Stopped : List ℕ → Refusal → Type 0
+Stopped ws f = read-from at-head 0 ws ≡ refused (number f) (place f)
+
+-- What the first four words say.
+pub record IsOpened (ws : List ℕ) (a : Accepted) : Type 0 where
+  pub model : Model
+  pub fields : a ≡ summary model
+  pub empty : model .net .table ≡ []
+  pub reads : read-from at-head 0 ws ≡ read-from (at-transition model) 4 (drop 4 ws)
+  pub inside : 4 ≤ length ws
+  pub states-high : model .states ≤ 1000
+  pub start-high : model .net .start ≤ model .states
+
+abbrev pub OpensAs : List ℕ → Opening → Type 0
+OpensAs ws (Opened a) = IsOpened ws a
+OpensAs ws (unopened f) = Stopped ws f

@@ -1,5 +1,6 @@
 // The word table of a model: its reading, with refusals 1 to 11, and the index of its exits.
 mod faults;
+mod opening;
 pub mod words;
 
 // A quantity of the table: coefficient / 10^scale.
