@@ -7,7 +7,7 @@
 --     prove (x ∷ y ∷ z ∷ []) (hyp (patom 2 +' plit 1) (patom 0) (patom 1) ∷ [])
 --       (patom 0 *' patom 2 +' patom 0) (patom 1 *' patom 2 +' patom 1) tt h
 --
--- `same-value` shows that two polynomials have the same value.
+-- `equal` does the same for equations: L ≈ R from aᵢ ≈ bᵢ. `same-value` is the case without hypotheses.
 use mathlib.Core.Path.{_≡_, refl}
 use mathlib.Core.List.{List, [], _∷_}
 use mathlib.Core.Bool.{Bool, true, false, not}
@@ -211,5 +211,23 @@ prove ρ (hyp c a b ∷ hs) L R t = λ p.
     imp-map ρ hs (λ w. ⊕-cancel (val c ρ ⊗ val b ρ) (≼-trans w (⊕-mono (≼-refl _) (⊗-mono (≼-refl (val c ρ)) p))))
     (prove ρ hs (padd L (pmul c b)) (padd R (pmul c a)) t)
 
+-- ---- equations: the test both ways
+
+-- G, given the hypotheses as equations
+abbrev pub Eqs : List Ratio → List Hyp → Type 0 → Type 0
+Eqs ρ [] G = G
+Eqs ρ (hyp c a b ∷ hs) G = val a ρ ≈ val b ρ → Eqs ρ hs G
+
+abbrev pub turned : List Hyp → List Hyp
+turned [] = []
+turned (hyp c a b ∷ hs) = hyp c b a ∷ turned hs
+
+both-ways : (ρ : List Ratio) (hs : List Hyp) {G K M : Type 0} → (G → K → M) → Imp ρ hs G → Imp ρ (turned hs) K → Eqs ρ hs M
+both-ways ρ [] f g k = f g k
+both-ways ρ (hyp c a b ∷ hs) f g k = λ e. both-ways ρ hs f (g (≈-le e)) (k (≈-ge e))
+
+pub equal : (ρ : List Ratio) (hs : List Hyp) (L R : P) → T (test hs L R) → T (test (turned hs) R L) → Eqs ρ hs (val L ρ ≈ val R ρ)
+equal ρ hs L R t u = both-ways ρ hs ≼-antisym (prove ρ hs L R t) (prove ρ (turned hs) R L u)
+
 pub same-value : (ρ : List Ratio) (L R : P) → T (covers (flat L) (flat R)) → T (covers (flat R) (flat L)) → val L ρ ≈ val R ρ
-same-value ρ L R t u = ≼-antisym (prove ρ [] L R t) (prove ρ [] R L u)
+same-value ρ L R t u = equal ρ [] L R t u

@@ -126,10 +126,20 @@ pub ≤-is : {z w : ℤ} {p n q m : ℕ} → Is z p n → Is w q m → z ≤ℤ 
     parts (negsuc a) (pos b) t = omega arith
     parts (negsuc a) (negsuc b) t = omega (arith, leb→le b a t)
 
--- a whole number that is not negative
+-- ---- whole numbers that are not negative, and positive ones
+
 pub not-negative : (z : ℤ) → pos 0 ≤ℤ z → z ≡ pos (natural z)
 not-negative (pos n) h = refl
 not-negative (negsuc n) h = absurd (h .le)
+
+-- one of the two parts is 0
+pub no-deficit : (z : ℤ) → deficit z ≤ natural z → deficit z ≡ 0
+no-deficit (pos n) h = refl
+no-deficit (negsuc n) h = omega arith
+
+pub no-natural : (z : ℤ) → natural z ≤ deficit z → natural z ≡ 0
+no-natural (pos n) h = omega arith
+no-natural (negsuc n) h = refl
 
 pub positive : (z : ℤ) → pos 0 <ℤ z → 0 < natural z
 positive (pos n) h = ltb→lt 0 n (h .lt)

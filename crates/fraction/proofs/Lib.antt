@@ -7,3 +7,6 @@ pub mod PowersOfTen
 pub mod Multiples
 pub mod Within
 pub mod Signed
+pub mod SignedCertificate
+pub mod Laws
+pub mod Quotients

@@ -1,7 +1,7 @@
 -- The bridge between the fractions of the statements, whose numerators are signed, and those of the proofs, whose numerators are natural.
 -- `signed` takes the second to the first, and every operation agrees on what comes from there; `nonnegative` goes back. Assumes nothing.
 use mathlib.Core.Path.{_≡_, refl, sym, _∙_, ap}
-use Prim.Native.Nat.{ℕ, zero, suc, _*_, _<_}
+use Prim.Native.Nat.{ℕ, zero, suc, _+_, _*_, _≤_, _<_}
 use native.Mathlib.Nat.{mul-pos}
 use native.Mathlib.Omega.{arith}
 use lib.Dec.{ltb→lt, lt→ltb, leb, leb→le, le→leb}
@@ -9,7 +9,7 @@ use lib.IntN.{ℤ, pos, negsuc}
 use lib.Signed.{_≤ℤ_, _<ℤ_}
 use Rattle.fraction.specs.Fraction.{Fraction, _≤ᶠ_, _≈ᶠ_, at-most, whole, ratio, inverse, ten, _+ᶠ_, _-ᶠ_, _*ᶠ_, _/ᶠ_, _^ᶠ_}
 pub use Rattle.fraction.proofs.Integers.{natural, minus-is}
-use Rattle.fraction.proofs.Integers.{natural-sub, Is, is-self, is-pos, is-minus, is-times, is-≤, ≤-is, not-negative, positive, <-≤}
+use Rattle.fraction.proofs.Integers.{deficit, natural-sub, no-natural, Is, is-self, is-pos, is-minus, is-times, is-≤, ≤-is, not-negative, positive, <-≤}
 use Rattle.fraction.proofs.Ratio.{Ratio, _≼_, _≈_, ofℕ, _⊕_, _⊗_, _⊖_}
 use Rattle.fraction.proofs.Inverse.{inv, _over_}
 use Rattle.fraction.proofs.Powers.{pow}
@@ -103,14 +103,31 @@ signed-natural x h = λ i. record { num = sym (not-negative (x .num) h) i; den =
 pub signed-positive-natural : (x : Fraction) → pos 0 <ℤ x .num → signed (nonnegative x) ≡ x
 signed-positive-natural x h = signed-natural x (<-≤ (x .num) h)
 
-pub signed-nonnegative : {x : Fraction} → whole 0 ≤ᶠ x → signed (nonnegative x) ≡ x
+pub signed-nonnegative : (x : Fraction) → whole 0 ≤ᶠ x → signed (nonnegative x) ≡ x
 unfolding whole
-signed-nonnegative {x} h = signed-natural x (is-≤ (is-pos 0) (is-self (x .num))
+signed-nonnegative x h = signed-natural x (is-≤ (is-pos 0) (is-self (x .num))
     (omega (arith, ≤-is (is-times (is-pos 0) (is-pos (x .den))) (is-times (is-self (x .num)) (is-pos 1)) (h .le))))
 
 pub nonnegative-positive : (x : Fraction) → pos 0 <ℤ x .num → 0 < (nonnegative x) .num
 unfolding nonnegative
 nonnegative-positive x h = positive (x .num) h
+
+-- the order goes along
+pub nonnegative-≼ : {x y : Fraction} → x ≤ᶠ y → nonnegative x ≼ nonnegative y
+unfolding nonnegative
+nonnegative-≼ {x} {y} h = record { le = go (x .num) (≤-is (is-times (is-self (x .num)) (is-pos (y .den))) (is-times (is-self (y .num)) (is-pos (x .den))) (h .le)) }
+  where
+    go : (z : ℤ) → natural z * y .den + deficit z * 0 + (natural (y .num) * 0 + deficit (y .num) * x .den)
+        ≤ natural (y .num) * x .den + deficit (y .num) * 0 + (natural z * 0 + deficit z * y .den)
+        → natural z * y .den ≤ natural (y .num) * x .den
+    go (pos n) l = omega arith
+    go (negsuc n) l = omega arith
+
+-- what is not positive becomes 0
+pub nonnegative-none : (x : Fraction) → x ≤ᶠ whole 0 → (nonnegative x) .num ≡ 0
+unfolding nonnegative whole
+nonnegative-none x h = no-natural (x .num)
+    (omega (arith, ≤-is (is-times (is-self (x .num)) (is-pos 1)) (is-times (is-pos 0) (is-pos (x .den))) (h .le)))
 
 -- ---- differences
 
