@@ -8,3 +8,5 @@ pub mod Natural
 pub mod ExactStates
 pub mod ExactSteps
 pub mod ExactUpper
+pub mod RoundedStates
+pub mod PathUpper

@@ -1,0 +1,57 @@
+-- The rounded upper of a path of at most 24 steps is at or above the exact one, by at most 19 roundings a step. Assumes nothing.
+use mathlib.Core.Path.{_≡_, refl}
+use mathlib.Core.List.{List, [], _∷_}
+use Prim.Native.Nat.{ℕ, zero, suc, _+_, _*_, _^_, _≤_, _<_}
+use native.Mathlib.Nat.{le-trans}
+use native.Mathlib.Omega.{arith}
+use lib.Dec.{lit≤}
+use lib.ListN.{length}
+use Rattle.fraction.proofs.Ratio.{Ratio, _≈_, ofℕ, _⊗_, ⊗-assoc}
+use Rattle.fraction.proofs.Inverse.{inv}
+use Rattle.figure.specs.declared.Figure.{Figure}
+use Rattle.model.specs.Model.{Manner, Transition, Net, Model}
+use Rattle.model.proofs.Valid.{Each, ValidManner, Valid}
+use Rattle.tree.specs.Paths.{Path, Class, class1, class2, class3, class, class1-count, counts-1}
+use Rattle.tree.specs.Upper.{upper-step, upper}
+use Rattle.accuracy.proofs.Near.{Near, near-exact, near-≤, near-≈, near-times, near-by-whole, near-whole}
+use Rattle.accuracy.proofs.ExactStates.{timeᴺ}
+use Rattle.accuracy.proofs.ExactSteps.{stepᴺ, steppedᴺ}
+use Rattle.accuracy.proofs.ExactUpper.{upper-valueᴺ, upperᴺ}
+use Rattle.accuracy.proofs.RoundedStates.{quantity-near, share-figure-is, mean-near}
+
+-- every step of a path has quantities in range
+abbrev pub ValidSteps : Path → Type 0
+ValidSteps p = Each (λ t. ValidManner (t .manner)) p
+
+-- a number of class 1 steps has at most nine digits
+pub short-count : (n k : ℕ) → k ≤ n → n ≤ 24 → suc k < 10 ^ 9
+short-count n k h l = le-trans {m = 26} (omega arith) (lit≤ tt)
+
+pub count-≤ : (net : Net) (p : Path) → class1-count net p ≤ length p
+unfolding class1-count
+count-≤ net [] = omega arith
+count-≤ net (t ∷ p) = go (class net t) (count-≤ net p)
+  where
+    go : (c : Class) → class1-count net p ≤ length p → counts-1 c + class1-count net p ≤ suc (length p)
+    go class1 h = omega arith
+    go class2 h = omega arith
+    go class3 h = omega arith
+
+module _ {m : Model} (valid : Valid m) where
+  upper-step-near : (c : Class) (k n : ℕ) (t : Transition) (u : Figure) (x : Ratio) → suc k < 10 ^ 9 → ValidManner (t .manner) → Near n u x
+      → Near (n + 19) (upper-step (m .net) c (counts-1 c + k) t u) (stepᴺ (timeᴺ (m .net)) (upper-valueᴺ (m .net)) c (counts-1 c + k) t x)
+  unfolding upper-step
+  upper-step-near class1 k n t u x l w p = let e : 1 + k ≡ suc k = omega arith in
+      rw e (near-≤ (n + 19) (omega arith) (near-by-whole k l (near-times (near-times p (near-exact (share-figure-is (t .manner) w))) (quantity-near (valid .time)))))
+  upper-step-near class2 k n t u x l w p = near-≤ (n + 19) (omega arith) (near-times p (near-exact (share-figure-is (t .manner) w)))
+  upper-step-near class3 k n t u x l w p =
+      near-≤ (n + 19) (omega arith) (near-≈ (⊗-assoc x _ _) (near-times (near-times p (near-exact (share-figure-is (t .manner) w))) (mean-near valid (t .from))))
+
+  steps-near : (p : Path) → ValidSteps p → length p ≤ 24 → Near (length p * 19) (upper (m .net) p) (upperᴺ (m .net) p)
+  unfolding upper upperᴺ steppedᴺ Each class1-count
+  steps-near [] w l = near-whole 1 (lit≤ tt)
+  steps-near (t ∷ p) w l = let e : suc (length p) * 19 ≡ length p * 19 + 19 = omega arith in
+      rw e (upper-step-near (class (m .net) t) (class1-count (m .net) p) (length p * 19) t (upper (m .net) p) _ (short-count (length p) _ (count-≤ (m .net) p) (omega arith)) (w .0) (steps-near p (w .1) (omega arith)))
+
+  pub upper-near : (p : Path) → ValidSteps p → length p ≤ 24 → Near 456 (upper (m .net) p) (upperᴺ (m .net) p)
+  upper-near p w l = near-≤ 456 (omega arith) (steps-near p w l)
