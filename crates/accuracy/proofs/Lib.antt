@@ -10,3 +10,4 @@ pub mod ExactSteps
 pub mod ExactUpper
 pub mod RoundedStates
 pub mod PathUpper
+pub mod ExactLower

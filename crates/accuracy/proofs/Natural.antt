@@ -78,7 +78,7 @@ is-kept p = rw (p .equal, nonnegative-signed (p .held)) refl
 pub clip-≈ : {x : Fraction} {r s : Ratio} → r ≈ s → x clips-to r → x clips-to s
 clip-≈ e p = record { clip = ≈-trans (p .clip) e }
 
-⊖-cong : {x x′ y y′ : Ratio} → x ≈ x′ → y ≈ y′ → x ⊖ y ≈ x′ ⊖ y′
+pub ⊖-cong : {x x′ y y′ : Ratio} → x ≈ x′ → y ≈ y′ → x ⊖ y ≈ x′ ⊖ y′
 ⊖-cong p q = ≼-antisym (⊖-mono (≈-le p) (≈-ge q)) (⊖-mono (≈-ge p) (≈-le q))
 
 pub clip-minus : {x y : Fraction} {r s : Ratio} → x is r → y is s → x -ᶠ y clips-to r ⊖ s

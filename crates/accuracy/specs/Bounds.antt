@@ -57,6 +57,10 @@ exact-upper net p = product (class1-rates net p) *ᶠ power-over-factorial (exac
 unfoldable pub grain-time : Net → ℕ → Fraction
 grain-time net n = whole n *ᶠ exact (net .time) /ᶠ whole 1000000
 
+-- "t = T × (1,000,000 − N') / 1,000,000", N' the sum of the grains that g gives the path's steps
+unfoldable pub time-left : Net → (Transition → ℕ) → Path → Fraction
+time-left net g p = remaining-time net (grain-sum net g p)
+
 -- "q × (1 − E × m − M / r²) for class 2"; e is E of the state that is left, r the time of the step's grains
 unfoldable pub class2-exact-factor : Fraction → Fraction → Manner → Fraction
 class2-exact-factor e r (slow x) = whole 0
@@ -103,7 +107,7 @@ exact-lower-with net g p =
     elim (leb 1000000 (grain-sum net g p)) [
       | true ↦ whole 0
       | false ↦
-          (let factors = all-factors net g (remaining-time net (grain-sum net g p)) p in
+          (let factors = all-factors net g (time-left net g p) p in
           elim (any not-positive factors) [ true ↦ whole 0 | false ↦ product factors ])
     ]
 
