@@ -103,9 +103,9 @@ signed-natural x h = λ i. record { num = sym (not-negative (x .num) h) i; den =
 pub signed-positive-natural : (x : Fraction) → pos 0 <ℤ x .num → signed (nonnegative x) ≡ x
 signed-positive-natural x h = signed-natural x (<-≤ (x .num) h)
 
-pub signed-nonnegative : (x : Fraction) → whole 0 ≤ᶠ x → signed (nonnegative x) ≡ x
+pub signed-nonnegative : {x : Fraction} → whole 0 ≤ᶠ x → signed (nonnegative x) ≡ x
 unfolding whole
-signed-nonnegative x h = signed-natural x (is-≤ (is-pos 0) (is-self (x .num))
+signed-nonnegative {x} h = signed-natural x (is-≤ (is-pos 0) (is-self (x .num))
     (omega (arith, ≤-is (is-times (is-pos 0) (is-pos (x .den))) (is-times (is-self (x .num)) (is-pos 1)) (h .le))))
 
 pub nonnegative-positive : (x : Fraction) → pos 0 <ℤ x .num → 0 < (nonnegative x) .num
