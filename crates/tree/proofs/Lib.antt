@@ -3,5 +3,7 @@ pub mod Least
 pub mod Lists
 pub mod Outcomes
 pub mod Visits
+pub mod Steps
+pub mod Carried
 pub mod Order
 pub mod Ended
