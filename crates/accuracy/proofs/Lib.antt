@@ -11,3 +11,4 @@ pub mod ExactUpper
 pub mod RoundedStates
 pub mod PathUpper
 pub mod ExactLower
+pub mod PathLower
