@@ -7,3 +7,5 @@ pub mod Steps
 pub mod Carried
 pub mod Order
 pub mod Ended
+pub mod Tally
+pub mod Answer
