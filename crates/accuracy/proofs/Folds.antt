@@ -1,11 +1,11 @@
 -- Running sums: left folds over a list, a rounded one beside an exact one. Assumes nothing.
-use mathlib.Core.Path.{_≡_, refl, sym, _∙_, ap}
+use mathlib.Core.Path.{_≡_, refl, _∙_, ap}
 use mathlib.Core.List.{List, [], _∷_, foldl}
 use Prim.Native.Nat.{ℕ, suc, _+_, _≤_}
 use native.Mathlib.Omega.{arith}
 use lib.ListN.{length}
 use Rattle.fraction.specs.Fraction.{Fraction}
-use Rattle.fraction.proofs.Ratio.{Ratio, _≈_, ofℕ, _⊕_, ≈-refl, ≈-sym, ≈-trans, ⊕-comm, ⊕-assoc, ⊕-zero}
+use Rattle.fraction.proofs.Ratio.{Ratio, _≈_, ofℕ, _⊕_, ≈-sym, ≈-trans, ⊕-comm, ⊕-assoc, ⊕-zero}
 use Rattle.fraction.proofs.Signed.{signed}
 use Rattle.model.proofs.Valid.{Each}
 
@@ -21,7 +21,8 @@ module _ {A F X : Type 0} (R : ℕ → F → X → Type 0) (Q : A → Type 0) (r
       rw e (fold-count (k + 1) xs (w .1) (omega arith) (step k f x a (w .0) h p))
 
 -- a fold of signed fractions whose steps agree with steps of natural ones
-pub fold-signed : {A : Type 0} (add : Fraction → A → Fraction) (natural : Ratio → A → Ratio) → ((x : Ratio) (a : A) → add (signed x) a ≡ signed (natural x a))
+pub fold-signed : {A : Type 0} (add : Fraction → A → Fraction) (natural : Ratio → A → Ratio)
+    → ((x : Ratio) (a : A) → add (signed x) a ≡ signed (natural x a))
     → (x : Ratio) (xs : List A) → foldl add (signed x) xs ≡ signed (foldl natural x xs)
 fold-signed add natural agree x [] = refl
 fold-signed add natural agree x (a ∷ xs) = ap (λ (t : Fraction). foldl add t xs) (agree x a) ∙ fold-signed add natural agree (natural x a) xs

@@ -3,10 +3,10 @@
 -- products, roundings and differences, and do not grow over sums. Assumes nothing.
 use mathlib.Core.List.{[], _∷_}
 use mathlib.Core.Logic.{⊎-elim}
-use Prim.Native.Nat.{ℕ, suc, _^_, _<_}
+use Prim.Native.Nat.{ℕ, suc, _+_, _^_}
 use native.Mathlib.Omega.{patom, plit}
-use Rattle.fraction.proofs.Ratio.{Ratio, _≼_, _≈_, ofℕ, _⊕_, _⊗_, _⊖_, ≼-refl, ≼-trans, ≼-or, ≈-le, ≈-ge, ⊕-mono, ⊗-mono, ⊗-cancel, ⊖-le, ⊖-adj, ⊖-mono, ⊖-cap, ⊖-none, ofℕ-pos, ≼-⊕}
-use Rattle.fraction.proofs.Certificate.{_+'_, _*'_, prove, hyp}
+use Rattle.fraction.proofs.Ratio.{Ratio, _≼_, _≈_, ofℕ, _⊕_, _⊗_, _⊖_, ≼-refl, ≼-trans, ≼-or, ≈-refl, ≈-trans, ≈-le, ≈-ge, ⊕-mono, ⊕-cong, ⊗-mono, ⊗-cong, ⊗-one, ⊗-cancel, ofℕ-⊕, ⊖-le, ⊖-adj, ⊖-mono, ⊖-cap, ⊖-none, ofℕ-pos, ≼-⊕}
+use Rattle.fraction.proofs.Certificate.{_+'_, _*'_, prove, same-value, hyp}
 use Rattle.fraction.proofs.Within.{Within}
 use Rattle.fraction.proofs.Signed.{signed}
 use Rattle.figure.specs.Rounding.{down}
@@ -36,6 +36,15 @@ lacks-≈ {e} c d b p = record {
   high = ≼-trans (≈-ge d) (≼-trans (p .high) (⊕-mono (≈-le c) (⊗-mono (≼-refl e) (≈-le b))));
   cap = ≼-trans (≈-ge d) (≼-trans (p .cap) (≈-le b));
 }
+
+-- ---- counting: n times the part e
+
+pub parts-+ : (e : Ratio) (m n : ℕ) → ofℕ (m + n) ⊗ e ≈ ofℕ m ⊗ e ⊕ ofℕ n ⊗ e
+parts-+ e m n = ≈-trans (⊗-cong (ofℕ-⊕ m n) (≈-refl e))
+    (same-value (ofℕ m ∷ ofℕ n ∷ e ∷ []) ((patom 0 +' patom 1) *' patom 2) (patom 0 *' patom 2 +' patom 1 *' patom 2) tt tt)
+
+pub parts-suc : (e : Ratio) (n : ℕ) → ofℕ n ⊗ e ⊕ e ≼ ofℕ (n + 1) ⊗ e
+parts-suc e n = ≈-ge (≈-trans (parts-+ e n 1) (⊕-cong (≈-refl _) (⊗-one e)))
 
 -- ---- errors through the operations
 

@@ -4,6 +4,7 @@ pub mod Under
 pub mod Near
 pub mod Lacks
 pub mod Short
+pub mod Totals
 pub mod Natural
 pub mod ExactStates
 pub mod ExactSteps
@@ -12,3 +13,4 @@ pub mod RoundedStates
 pub mod PathUpper
 pub mod ExactLower
 pub mod PathLower
+pub mod EndedPaths

@@ -5,7 +5,7 @@ use native.Mathlib.Nat.{zero-lt-suc}
 use native.Mathlib.Omega.{arith}
 use lib.IntN.{pos}
 use lib.ListN.{length}
-use Rattle.fraction.proofs.Ratio.{Ratio, _≈_, ofℕ, _⊕_, _⊗_, ≈-refl, ≈-sym, ≈-trans, ⊗-cong, ⊗-zero, ofℕ-pos}
+use Rattle.fraction.proofs.Ratio.{Ratio, _≈_, ofℕ, _⊕_, _⊗_, ≈-refl, ≈-sym, ⊗-cong, ⊗-zero, ofℕ-pos}
 use Rattle.fraction.proofs.Inverse.{inv, _over_}
 use Rattle.fraction.proofs.PowersOfTen.{ten-to, ten-nat}
 use Rattle.fraction.proofs.Within.{Within, within-inv}
@@ -17,7 +17,7 @@ use Rattle.figure.specs.Operations.{times-up, plus-up, divided-up, times-ten, o
 use Rattle.figure.proofs.Value.{val, value-is}
 use Rattle.figure.proofs.Operations.{value-times, value-plus, value-divided}
 use Rattle.figure.proofs.Exact.{natural-times-ten, of-quantity-exact}
-use Rattle.accuracy.proofs.Roundings.{ρ, rounded-up, roundings-none, roundings-≤, roundings-≈, roundings-trans, roundings-⊗, roundings-scale, roundings-⊕}
+use Rattle.accuracy.proofs.Roundings.{ρ, rounded-up, roundings-none, roundings-≤, within-≈, roundings-trans, roundings-⊗, roundings-scale, roundings-⊕}
 use Rattle.accuracy.proofs.Folds.{fold-count}
 use Rattle.accuracy.proofs.Under.{Under, under-exact, under-pos, whole-is}
 
@@ -26,7 +26,7 @@ pub record Near (n : ℕ) (f : Figure) (x : Ratio) : Type 0 where
   pub within : Within (ρ n) (val f) x
 
 pub near-exact : {f : Figure} {x : Ratio} → val f ≈ x → Near 0 f x
-near-exact {f} e = record { within = roundings-≈ 0 (≈-refl _) e (roundings-none (val f)) }
+near-exact {f} e = record { within = within-≈ (≈-refl _) e (roundings-none (val f)) }
 
 pub near-refl : (f : Figure) → Near 0 f (val f)
 near-refl f = near-exact (≈-refl _)
@@ -35,7 +35,7 @@ pub near-≤ : {m : ℕ} (n : ℕ) {f : Figure} {x : Ratio} → m ≤ n → Near
 near-≤ {m} n h p = record { within = roundings-≤ m n h (p .within) }
 
 pub near-≈ : {n : ℕ} {f : Figure} {x y : Ratio} → x ≈ y → Near n f x → Near n f y
-near-≈ {n} e p = record { within = roundings-≈ n (≈-refl _) e (p .within) }
+near-≈ e p = record { within = within-≈ (≈-refl _) e (p .within) }
 
 -- one rounding more
 pub near-up : (n : ℕ) {x̂ x : Ratio} → Within (ρ n) x̂ x → Near (n + 1) (up 9 (signed x̂)) x
@@ -60,7 +60,8 @@ unfolding divided-up
 near-divided {m} {n} {a} {b} h p q = rw (value-divided a b) (near-up (m + n) (roundings-⊗ m n (p .within) (within-inv (under-pos h q) h (q .within))))
 
 -- by a whole number of at most nine digits
-pub near-by-whole : {n : ℕ} {a : Figure} {x : Ratio} (k : ℕ) → suc k < 10 ^ 9 → Near n a x → Near (n + 1) (divided-up a (of-whole (suc k))) (x ⊗ inv (ofℕ (suc k)))
+pub near-by-whole : {n : ℕ} {a : Figure} {x : Ratio} (k : ℕ) → suc k < 10 ^ 9 → Near n a x
+    → Near (n + 1) (divided-up a (of-whole (suc k))) (x ⊗ inv (ofℕ (suc k)))
 near-by-whole {n} k h p = near-≤ (n + 1) (omega arith) (near-divided (ofℕ-pos (zero-lt-suc k)) p (under-exact (whole-is (suc k) h)))
 
 -- ---- what is exact
@@ -68,7 +69,7 @@ near-by-whole {n} k h p = near-≤ (n + 1) (omega arith) (near-divided (ofℕ-po
 -- times a power of ten
 pub near-ten : {n : ℕ} {a : Figure} {x : Ratio} (k : ℕ) → Near n a x → Near n (times-ten a (pos k)) (x ⊗ ofℕ (10 ^ k))
 near-ten {n} {a} {x} k p = record {
-  within = roundings-≈ n (≈-sym (natural-times-ten a (pos k))) (⊗-cong (≈-refl x) (ten-nat k)) (roundings-scale n (ten-to (pos k)) (p .within));
+  within = within-≈ (≈-sym (natural-times-ten a (pos k))) (⊗-cong (≈-refl x) (ten-nat k)) (roundings-scale n (ten-to (pos k)) (p .within));
 }
 
 -- a whole number of at most nine digits

@@ -44,8 +44,9 @@ roundings-none x = within-≼ (≈-ge (grow-zero 99999998)) (within-refl x)
 pub roundings-≤ : (m n : ℕ) {y x : Ratio} → m ≤ n → Within (ρ m) y x → Within (ρ n) y x
 roundings-≤ m n h p = within-≼ (grow-≤ 99999998 m n h) p
 
-pub roundings-≈ : (n : ℕ) {y x y′ x′ : Ratio} → y ≈ y′ → x ≈ x′ → Within (ρ n) y x → Within (ρ n) y′ x′
-roundings-≈ n d e p = record {
+-- equal values, whatever the factor
+pub within-≈ : {F y x y′ x′ : Ratio} → y ≈ y′ → x ≈ x′ → Within F y x → Within F y′ x′
+within-≈ d e p = record {
   low = ≼-trans (≈-ge e) (≼-trans (p .low) (≈-le d));
   high = ≼-trans (≈-ge d) (≼-trans (p .high) (⊗-mono (≈-le e) (≼-refl _)));
 }

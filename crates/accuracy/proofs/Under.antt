@@ -15,14 +15,14 @@ use Rattle.figure.proofs.Value.{val}
 use Rattle.figure.proofs.Operations.{value-times, value-plus}
 use Rattle.figure.proofs.Exact.{exact-down, whole-exact}
 use Rattle.accuracy.proofs.Folds.{fold-count}
-use Rattle.accuracy.proofs.Roundings.{ρ, rounded-down, roundings-none, roundings-≤, roundings-≈, roundings-trans, roundings-⊗, roundings-⊕}
+use Rattle.accuracy.proofs.Roundings.{ρ, rounded-down, roundings-none, roundings-≤, within-≈, roundings-trans, roundings-⊗, roundings-⊕}
 
 -- the figure f is x, or below it by at most n roundings; a record, so that n, f and x can be inferred
 pub record Under (n : ℕ) (f : Figure) (x : Ratio) : Type 0 where
   pub within : Within (ρ n) x (val f)
 
 pub under-exact : {f : Figure} {x : Ratio} → val f ≈ x → Under 0 f x
-under-exact {f} e = record { within = roundings-≈ 0 e (≈-refl _) (roundings-none (val f)) }
+under-exact {f} e = record { within = within-≈ e (≈-refl _) (roundings-none (val f)) }
 
 pub under-refl : (f : Figure) → Under 0 f (val f)
 under-refl f = under-exact (≈-refl _)
@@ -31,7 +31,7 @@ pub under-≤ : {m : ℕ} (n : ℕ) {f : Figure} {x : Ratio} → m ≤ n → Und
 under-≤ {m} n h p = record { within = roundings-≤ m n h (p .within) }
 
 pub under-≈ : {n : ℕ} {f : Figure} {x y : Ratio} → x ≈ y → Under n f x → Under n f y
-under-≈ {n} e p = record { within = roundings-≈ n e (≈-refl _) (p .within) }
+under-≈ e p = record { within = within-≈ e (≈-refl _) (p .within) }
 
 factor-pos : (x y : Ratio) → 0 < (x ⊗ y) .num → 0 < x .num
 unfolding _⊗_
