@@ -1,15 +1,15 @@
 -- The bridge between the fractions of the statements, whose numerators are signed, and those of the proofs, whose numerators are natural.
 -- `signed` takes the second to the first, and every operation agrees on what comes from there; `nonnegative` goes back. Assumes nothing.
 use mathlib.Core.Path.{_≡_, refl, sym, _∙_, ap}
-use Prim.Native.Nat.{ℕ, zero, suc, _+_, _*_, _≤_, _<_}
+use Prim.Native.Nat.{ℕ, zero, suc, _*_, _≤_, _<_}
 use native.Mathlib.Nat.{mul-pos}
 use native.Mathlib.Omega.{arith}
 use lib.Dec.{ltb→lt, lt→ltb, leb, leb→le, le→leb}
-use lib.IntN.{ℤ, pos, negsuc}
+use lib.IntN.{ℤ, pos, negsuc, _*ℤ_}
 use lib.Signed.{_≤ℤ_, _<ℤ_}
 use Rattle.fraction.specs.Fraction.{Fraction, _≤ᶠ_, _≈ᶠ_, at-most, whole, ratio, inverse, ten, _+ᶠ_, _-ᶠ_, _*ᶠ_, _/ᶠ_, _^ᶠ_}
 pub use Rattle.fraction.proofs.Integers.{natural, minus-is}
-use Rattle.fraction.proofs.Integers.{deficit, natural-sub, no-natural, Is, is-self, is-pos, is-minus, is-times, is-≤, ≤-is, not-negative, positive, <-≤}
+use Rattle.fraction.proofs.Integers.{natural-sub, Is, is-self, is-pos, is-minus, is-times, is-≤, ≤-is, not-negative, positive, <-≤}
 use Rattle.fraction.proofs.Ratio.{Ratio, _≼_, _≈_, ofℕ, _⊕_, _⊗_, _⊖_}
 use Rattle.fraction.proofs.Inverse.{inv, _over_}
 use Rattle.fraction.proofs.Powers.{pow}
@@ -115,19 +115,16 @@ nonnegative-positive x h = positive (x .num) h
 -- the order goes along
 pub nonnegative-≼ : {x y : Fraction} → x ≤ᶠ y → nonnegative x ≼ nonnegative y
 unfolding nonnegative
-nonnegative-≼ {x} {y} h = record { le = go (x .num) (≤-is (is-times (is-self (x .num)) (is-pos (y .den))) (is-times (is-self (y .num)) (is-pos (x .den))) (h .le)) }
+nonnegative-≼ {x} {y} h = record { le = go (x .num) (h .le) }
   where
-    go : (z : ℤ) → natural z * y .den + deficit z * 0 + (natural (y .num) * 0 + deficit (y .num) * x .den)
-        ≤ natural (y .num) * x .den + deficit (y .num) * 0 + (natural z * 0 + deficit z * y .den)
-        → natural z * y .den ≤ natural (y .num) * x .den
-    go (pos n) l = omega arith
+    go : (z : ℤ) → (z *ℤ pos (y .den)) ≤ℤ (y .num *ℤ pos (x .den)) → natural z * y .den ≤ natural (y .num) * x .den
+    go (pos n) l = omega (arith, ≤-is (is-pos (n * y .den)) (is-times (is-self (y .num)) (is-pos (x .den))) l)
     go (negsuc n) l = omega arith
 
 -- what is not positive becomes 0
 pub nonnegative-none : (x : Fraction) → x ≤ᶠ whole 0 → (nonnegative x) .num ≡ 0
 unfolding nonnegative whole
-nonnegative-none x h = no-natural (x .num)
-    (omega (arith, ≤-is (is-times (is-self (x .num)) (is-pos 1)) (is-times (is-pos 0) (is-pos (x .den))) (h .le)))
+nonnegative-none x h = omega (arith, (nonnegative-≼ h) .le)
 
 -- ---- differences
 

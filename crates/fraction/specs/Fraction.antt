@@ -12,6 +12,7 @@ infix 50 _≤ᶠ_ _≈ᶠ_
 infixl 60 _+ᶠ_ _-ᶠ_
 infixl 70 _*ᶠ_ _/ᶠ_
 infixr 80 _^ᶠ_
+-- "a fraction of two whole numbers, the denominator positive and the numerator signed"
 pub record Fraction : Type 0 where
   pub num : ℤ
   pub den : ℕ
@@ -33,6 +34,8 @@ at-most x y = leZ (x .num *ℤ pos (y .den)) (y .num *ℤ pos (x .den))
 unfoldable pub whole : ℕ → Fraction
 whole n = record { num = pos n; den = 1; den-pos = zero-lt-suc 0 }
 
+-- ---- sum, difference and product
+
 unfoldable pub _+ᶠ_ : Fraction → Fraction → Fraction
 x +ᶠ y = record { num = x .num *ℤ pos (y .den) +ℤ y .num *ℤ pos (x .den); den = x .den * y .den; den-pos = mul-pos (x .den-pos) (y .den-pos) }
 
@@ -41,6 +44,8 @@ x -ᶠ y = record { num = x .num *ℤ pos (y .den) -ℤ y .num *ℤ pos (x .den)
 
 unfoldable pub _*ᶠ_ : Fraction → Fraction → Fraction
 x *ᶠ y = record { num = x .num *ℤ y .num; den = x .den * y .den; den-pos = mul-pos (x .den-pos) (y .den-pos) }
+
+-- ---- quotients and powers
 
 -- n / d, where d is positive; 0 where it is 0
 unfoldable pub ratio : ℤ → ℕ → Fraction
