@@ -105,9 +105,6 @@ is-≡ {z} {w} h k e = apart z w (omega (arith, h .is, k .is))
     apart (negsuc a) (pos b) e = absurd (let f : ⊥ = omega arith in f)
     apart (negsuc a) (negsuc b) e = ap negsuc (omega arith)
 
-pub ≡-is : {z w : ℤ} {p n q m : ℕ} → Is z p n → Is w q m → z ≡ w → p + m ≡ q + n
-≡-is {z} {w} h k e = let f : natural z + deficit w ≡ natural w + deficit z = rw e refl in omega (arith, h .is, k .is)
-
 pub is-≤ : {z w : ℤ} {p n q m : ℕ} → Is z p n → Is w q m → p + m ≤ q + n → z ≤ℤ w
 is-≤ {z} {w} h k l = record { le = test z w (omega (arith, h .is, k .is)) }
   where
@@ -136,10 +133,6 @@ not-negative (negsuc n) h = absurd (h .le)
 pub no-deficit : (z : ℤ) → deficit z ≤ natural z → deficit z ≡ 0
 no-deficit (pos n) h = refl
 no-deficit (negsuc n) h = omega arith
-
-pub no-natural : (z : ℤ) → natural z ≤ deficit z → natural z ≡ 0
-no-natural (pos n) h = omega arith
-no-natural (negsuc n) h = refl
 
 pub positive : (z : ℤ) → pos 0 <ℤ z → 0 < natural z
 positive (pos n) h = ltb→lt 0 n (h .lt)

@@ -10,10 +10,10 @@ use lib.IntN.{pos}
 use lib.Signed.{≤ℤ-refl}
 use Rattle.fraction.specs.Fraction.{Fraction, _≤ᶠ_, _≈ᶠ_, at-most, whole, _+ᶠ_, _-ᶠ_, _*ᶠ_}
 use Rattle.fraction.proofs.Certificate.{_+'_}
-pub use Rattle.fraction.proofs.SignedCertificate.{≤ᶠ-antisym}
+pub use Rattle.fraction.proofs.SignedCertificate.{≤ᶠ-antisym, ≤ᶠ-or}
 use Rattle.fraction.proofs.SignedCertificate.{var, lit, _⊞_, _⊟_, _⊠_, order, nonneg, up-of, down-of, prove-signed, same-signed}
 
--- ---- the order is a preorder, and the test `at-most` decides it; `≤ᶠ-antisym` is the order both ways
+-- ---- the order is a total preorder, and the test `at-most` decides it; `≤ᶠ-antisym`: both ways it is equality as fractions
 
 pub ≤ᶠ-refl : (x : Fraction) → x ≤ᶠ x
 ≤ᶠ-refl x = prove-signed (x ∷ []) [] (var 0) (var 0) tt
@@ -164,7 +164,7 @@ pub -ᶠ-cong : {x x′ y y′ : Fraction} → x ≈ᶠ x′ → y ≈ᶠ y′ �
 pub *ᶠ-cong : {x x′ y y′ : Fraction} → x ≈ᶠ x′ → y ≈ᶠ y′ → x *ᶠ y ≈ᶠ x′ *ᶠ y′
 *ᶠ-cong p q = ≤ᶠ-antisym (*ᶠ-half p q) (*ᶠ-half (≈ᶠ-sym p) (≈ᶠ-sym q))
 
--- ---- what cancels: a summand, and a positive factor
+-- ---- a summand cancels (a positive factor too: `*ᶠ-cancel` of `Quotients`)
 
 pub +ᶠ-cancel : {x y : Fraction} (z : Fraction) → x +ᶠ z ≤ᶠ y +ᶠ z → x ≤ᶠ y
 +ᶠ-cancel {x} {y} z p = prove-signed (x ∷ y ∷ z ∷ []) (order (plit 1) (var 0 ⊞ var 2) (var 1 ⊞ var 2) ∷ []) (var 0) (var 1) tt p

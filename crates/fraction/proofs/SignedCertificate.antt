@@ -9,13 +9,14 @@
 --     prove-signed (x ∷ y ∷ z ∷ []) (nonneg (down-of 0 +' up-of 1) 2 ∷ order (up-of 2) (var 0) (var 1) ∷ []) (var 2 ⊠ var 0) (var 2 ⊠ var 1) tt h p
 use mathlib.Core.Path.{_≡_, refl, ap}
 use mathlib.Core.List.{List, [], _∷_}
+use mathlib.Core.Logic.{_⊎_, inl, inr, ⊎-elim}
 use Prim.Native.Nat.{ℕ, zero, suc, _+_, _*_}
 use native.Mathlib.Nat.{mul-pos, mul-le-mul-right, le-of-mul-le-mul-right}
 use native.Mathlib.Omega.{arith, P, patom, plit, flat}
 use lib.Dec.{T}
 use Rattle.fraction.specs.Fraction.{Fraction, _≤ᶠ_, _≈ᶠ_, whole, _+ᶠ_, _-ᶠ_, _*ᶠ_}
 use Rattle.fraction.proofs.Integers.{deficit, no-deficit, is-self, is-pos, is-plus, is-minus, is-times, is-≤, ≤-is, is-≡}
-use Rattle.fraction.proofs.Ratio.{Ratio, _≼_, _≈_, ofℕ, _⊕_, _⊗_, ≈-refl, ≈-sym, ≈-le, ≈-ge, num-zero}
+use Rattle.fraction.proofs.Ratio.{Ratio, _≼_, _≈_, ofℕ, _⊕_, _⊗_, ≈-refl, ≈-sym, ≈-le, ≈-ge, ≼-or, num-zero}
 use Rattle.fraction.proofs.Certificate.{_+'_, _*'_, val, nth, prove, equal, hyp, Hyp, Imp, test, covers}
 use Rattle.fraction.proofs.Signed.{nonnegative}
 
@@ -236,6 +237,10 @@ pub ≤ᶠ-antisym : {x y : Fraction} → x ≤ᶠ y → y ≤ᶠ x → x ≈ᶠ
     let l = is-times (is-self (x .num)) (is-pos (y .den)) in
     let r = is-times (is-self (y .num)) (is-pos (x .den)) in
     record { eq = is-≡ l r (omega (arith, ≤-is l r (p .le), ≤-is r l (q .le))) }
+
+-- of two fractions one is not above the other
+pub ≤ᶠ-or : (x y : Fraction) → (x ≤ᶠ y) ⊎ (y ≤ᶠ x)
+≤ᶠ-or x y = ⊎-elim (λ h. inl (own-≤ x y h)) (λ h. inr (own-≤ y x h)) (≼-or (nonnegative x ⊕ below-zero y) (nonnegative y ⊕ below-zero x))
 
 -- two expressions with the same value, whatever the variables
 pub same-signed : (ρ : List Fraction) (a b : Expression) → T (covers (flat (gain a +' loss b)) (flat (gain b +' loss a)))
