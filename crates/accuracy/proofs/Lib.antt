@@ -14,3 +14,4 @@ pub mod PathUpper
 pub mod ExactLower
 pub mod PathLower
 pub mod EndedPaths
+pub mod Theorem

@@ -45,5 +45,5 @@ pub record AccuracyRule (ws : List ℕ) (budget : ℕ) (a : Answer Report) : Typ
   pub accurate : (m : Model) (r : Report) → read ws budget ≡ Answer.granted m → a ≡ Answer.granted r → Accurate (m .net) (deaths (tree (m .net) (m .limits))) (cuts (tree (m .net) (m .limits))) r
 
 -- Demand 3: the accuracy rule holds of the answer to every list of words and every budget.
-pub AccuracyTheorem : Type 0
+abbrev pub AccuracyTheorem : Type 0
 AccuracyTheorem = (ws : List ℕ) (budget : ℕ) → AccuracyRule ws budget (answer ws budget)
