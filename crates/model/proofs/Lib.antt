@@ -9,3 +9,4 @@ pub mod ReadValid
 pub mod FirstFault
 pub mod Steps
 pub mod Asked
+pub mod Along

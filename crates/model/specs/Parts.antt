@@ -59,6 +59,39 @@ field-faults states w =
     ∷ (eqb (from-field w) (to-field w) gives 7)
     ∷ []
 
+-- ---- what the index leads to
+
+-- f of the n numbers from i on
+unfoldable pub along : {A : Type 0} → (ℕ → A) → ℕ → ℕ → List A
+along f zero i = []
+along f (suc n) i = f i ∷ along f n (suc i)
+
+-- the place of the word that slot i of the state s leads to
+abbrev pub slot-place : List ℕ → List ℕ → ℕ → ℕ → ℕ
+slot-place slots places s i = getD places (getD slots (s * 16 + i) 0) 0
+
+-- the words, and the transitions, that the first n slots of the state s lead to
+abbrev pub slot-words : List ℕ → List ℕ → List ℕ → ℕ → ℕ → List ℕ
+slot-words ws slots places s n = along (λ i. getD ws (slot-place slots places s i) 0) n 0
+
+abbrev pub slot-transitions : List ℕ → List ℕ → List ℕ → ℕ → ℕ → List Transition
+slot-transitions ws slots places s n = along (λ i. transition-at (drop (slot-place slots places s i) ws)) n 0
+
+-- The first n slots of the state s lead to words: each holds an index below 4,000, and a fast transition has its three words behind it.
+pub record Leads (ws slots places : List ℕ) (s n : ℕ) : Type 0 where
+  pub state : s ≤ 1000
+  pub few : n ≤ 16
+  pub index : (i : ℕ) → i < n → getD slots (s * 16 + i) 0 < 4000
+  pub inside : (i : ℕ) → i < n → slot-place slots places s i < length ws
+  pub whole : (i : ℕ) → i < n → kind (getD ws (slot-place slots places s i) 0) ≡ 7 → slot-place slots places s i + 3 < length ws
+
+-- tests 8 and 9 of the word w, by the index: with bits 27 to 24 zero, the same kind, from and to is the same word
+abbrev pub room-faults : List ℕ → List ℕ → List ℕ → ℕ → ℕ → ℕ → List Fault
+room-faults ws slots places n known w =
+    (any (eqb w) (slot-words ws slots places (from-field w) n) gives 8)
+    ∷ (leb 16 n || leb 4000 known gives 9)
+    ∷ []
+
 -- ---- the reading so far
 
 -- the words are refused

@@ -1,5 +1,6 @@
 // The word table of a model: its reading, with refusals 1 to 11, and the index of its exits.
 mod faults;
+mod index;
 mod opening;
 pub mod words;
 
