@@ -1,14 +1,13 @@
 -- The answer by what the reading and the walk find: "13: the cut tree has more steps than the budget." Assumes nothing.
 use Prim.Native.Nat.{ℕ, _≤_, _<_}
-use mathlib.Core.Path.{_≡_, refl}
-use mathlib.Core.List.{List, [], _∷_}
+use mathlib.Core.Path.{_≡_}
+use mathlib.Core.List.{List}
 use lib.ListN.{length}
-use lib.Dec.{ltb}
 use borrow.Author.Tests.{lt-ltb, le-ltb}
 use Rattle.model.specs.Model.{Model}
 use Rattle.model.specs.Reading.{Answer, then, first-of, read}
 use Rattle.tree.specs.Tree.{tree}
-use Rattle.tree.specs.Report.{Report, report-on, walked, answer}
+use Rattle.tree.specs.Report.{report-on, walked, answer}
 
 module _ (budget : ℕ) (m : Model) where
   pub walked-over : budget < length (tree (m .net) (m .limits)) → walked budget m ≡ Answer.refused 13 0

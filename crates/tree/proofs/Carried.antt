@@ -2,8 +2,8 @@
 -- the path each time. The two are the same list. Assumes nothing.
 use Prim.Native.Nat.{ℕ, zero, suc, _+_, _≤_, _<_}
 use mathlib.Core.Path.{_≡_, refl, sym, ap, ap₂, _∙_}
-use mathlib.Core.Bool.{Bool, true, false}
-use mathlib.Core.List.{List, [], _∷_, _++_, flatMap, List·Memᴰ}
+use mathlib.Core.Bool.{true, false}
+use mathlib.Core.List.{List, [], _∷_, _++_, flatMap}
 use native.Mathlib.Omega.{arith}
 use native.Mathlib.Nat.{pos-of-ne-zero}
 use native.Mathlib.Decide.{ℕ-discrete}

@@ -1,16 +1,15 @@
 -- The grains are what document 01 asks for: "n is the least whole number with n³ at or above g", "n² at or above g", "Either is 1,000,000 if none
 -- below it will do". The least is unique, so code may search for it in another way. Assumes nothing.
 use Prim.Native.Nat.{ℕ, zero, suc, _+_, _*_, _/_, _^_, _≤_, _<_}
-use mathlib.Core.Path.{_≡_, refl, sym, _∙_, ap, ap₂}
+use mathlib.Core.Path.{_≡_, refl, sym, _∙_, ap₂}
 use mathlib.Core.Bool.{Bool, true, false, not}
 use native.Mathlib.Nat.{le-trans, le-antisymm, lt-irrefl, mul-le-mul-right, pow-succ', pow-le-pow-left}
 use native.Mathlib.Omega.{arith, by-contra}
 use lib.Dec.{T, leb, leb→le, le→leb, nleb→lt, lit<, lit≤}
-use Rattle.fraction.specs.Fraction.{whole, at-most}
+use Rattle.fraction.specs.Fraction.{at-most}
 use Rattle.fraction.proofs.Ratio.{ofℕ}
-use Rattle.fraction.proofs.Signed.{signed, signed-whole, at-most-signed}
+use Rattle.fraction.proofs.Signed.{signed-whole, at-most-signed}
 use Rattle.figure.specs.declared.Figure.{Figure}
-use Rattle.figure.specs.Rounding.{value}
 use Rattle.figure.proofs.Value.{val, value-is}
 use Rattle.model.specs.declared.Quantity.{Quantity}
 use Rattle.model.specs.Model.{Manner, slow, fast, Transition, Net, has-fast, exits}

@@ -9,3 +9,4 @@ pub mod Order
 pub mod Ended
 pub mod Tally
 pub mod Answer
+pub mod Divisors

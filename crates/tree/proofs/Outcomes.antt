@@ -1,5 +1,5 @@
 -- What becomes of a path, as a decision by four tests, and what is known of a path that is continued. Assumes nothing.
-use Prim.Native.Nat.{ℕ, zero, suc, _≤_, _<_}
+use Prim.Native.Nat.{ℕ, _≤_}
 use mathlib.Core.Path.{_≡_, refl, sym, _∙_}
 use mathlib.Core.Bool.{Bool, true, false, true≢false}
 use native.Mathlib.Omega.{arith}
@@ -11,7 +11,7 @@ use Rattle.model.specs.Model.{Net, Limits, is-empty, exits}
 use Rattle.tree.specs.Paths.{Path, last-state, entries}
 use Rattle.tree.specs.States.{figure-of}
 use Rattle.tree.specs.Upper.{upper}
-use Rattle.tree.specs.Tree.{Outcome, death, entered-too-often, step-limit, low-level, continued, outcome, is-death, is-cut, is-continued}
+use Rattle.tree.specs.Tree.{Outcome, death, entered-too-often, step-limit, low-level, continued, outcome, is-death, is-continued}
 
 -- the outcome by document 01's four tests in their order
 unfoldable pub decided : (no-exits too-often at-limit low : Bool) → Outcome

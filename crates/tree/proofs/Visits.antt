@@ -1,18 +1,16 @@
 -- The tree's list of visits is the cut tree of document 01: it holds the paths "formed so", and no other. Assumes nothing.
-use Prim.Native.Nat.{ℕ, zero, suc, _+_, _≤_, _<_}
-use mathlib.Core.Path.{_≡_, refl, sym, ap, _∙_, subst}
-use mathlib.Core.Bool.{Bool, true, false, true≢false}
+use Prim.Native.Nat.{ℕ, zero, suc, _+_, _≤_}
+use mathlib.Core.Path.{_≡_, refl, sym, ap, _∙_}
+use mathlib.Core.Bool.{Bool, true, false}
 use mathlib.Core.Logic.{_⊎_, inl, inr, _↔_, ∥∥₁-elim, ∥∥₁-map, ∥∥₁-map₂}
 use mathlib.Core.List.{List, [], _∷_, _++_, tail, flatMap, List·Mem, List·Memᴰ, List·Memᴰ·head, List·Memᴰ·tail, List·Memᴰ·not-nil, List·Memᴰ·cases-cons, List·Mem-prop, Memᴰ·cast}
 use native.Mathlib.Omega.{arith}
 use lib.ListN.{length, length-append}
-use Rattle.model.specs.Model.{Transition, Net, Limits, is-empty, exits}
+use Rattle.model.specs.Model.{Transition, Net, Limits, exits}
 use Rattle.model.proofs.Valid.{Each}
 use Rattle.model.proofs.Members.{each-member}
-use Rattle.tree.specs.Paths.{Path, last-state, IsPath, entries}
-use Rattle.tree.specs.States.{figure-of}
-use Rattle.tree.specs.Upper.{upper}
-use Rattle.tree.specs.Tree.{Outcome, death, entered-too-often, step-limit, low-level, continued, outcome, is-continued, Visit, visits, tree}
+use Rattle.tree.specs.Paths.{Path, last-state, IsPath}
+use Rattle.tree.specs.Tree.{continued, outcome, is-continued, Visit, visits, tree}
 use Rattle.tree.proofs.Outcomes.{continued-continues, is-continued-true}
 use Rattle.tree.proofs.Lists.{where-true, each-where, flatMap-member, flatMap-from, each-flatMap}
 
