@@ -3,6 +3,8 @@ pub mod Members
 pub mod Exits
 pub mod Slots
 pub mod Refusals
+pub mod Numbers
+pub mod Probabilities
 pub mod Growing
 pub mod IndexGrowth
 pub mod ReadValid

@@ -163,7 +163,13 @@ module _ (net : Net) where
 
 -- ---- the answer, by what was found first
 
--- what is read once the caller's two tests are passed
+-- the caller's two tests are passed
+pub record Called (ws : List ℕ) (budget : ℕ) : Type 0 where
+  pub words-few : length ws ≤ 16005
+  pub budget-low : 1 ≤ budget
+  pub budget-high : budget ≤ 1000000
+
+-- what is read then
 abbrev words-answer : List ℕ → Answer Model
 words-answer ws = then (read-from at-head 0 ws) (λ m. first-of (model-findings m) m)
 
@@ -175,38 +181,40 @@ pub read-too-long : (ws : List ℕ) (budget : ℕ) → 16005 < length ws → rea
 unfolding then
 read-too-long ws budget h = read-caller ws budget (refused 1 0) (first-here _ _ ws (lt-ltb 16005 (length ws) h))
 
-module _ (ws : List ℕ) (budget : ℕ) (short : length ws ≤ 16005) where
-  pub read-bad-budget : outside 1 1000000 budget ≡ true → read ws budget ≡ refused 2 0
+pub read-bad-budget : (ws : List ℕ) (budget : ℕ) → length ws ≤ 16005 → outside 1 1000000 budget ≡ true → read ws budget ≡ refused 2 0
+unfolding then
+read-bad-budget ws budget short e = read-caller ws budget (refused 2 0) (first-past _ _ ws (le-ltb 16005 (length ws) short) ∙ first-here _ _ ws e)
+
+module _ (ws : List ℕ) (budget : ℕ) (called : Called ws budget) where
+  read-on : read ws budget ≡ words-answer ws
+  unfolding then Each
+  read-on =
+      let words-pass = le-ltb 16005 (length ws) (called .words-few) in
+      let budget-passes = inside-test 1 1000000 budget (called .budget-low) (called .budget-high) in
+      read-caller ws budget (granted ws) (first-none _ ws (words-pass, (budget-passes, tt)))
+
+  pub read-bad-word : (number place : ℕ) → read-from at-head 0 ws ≡ refused number place → read ws budget ≡ refused number place
   unfolding then
-  read-bad-budget e = read-caller ws budget (refused 2 0) (first-past _ _ ws (le-ltb 16005 (length ws) short) ∙ first-here _ _ ws e)
+  read-bad-word number place e = read-on ∙ rw e
 
-  module _ (low : 1 ≤ budget) (high : budget ≤ 1000000) where
-    read-on : read ws budget ≡ words-answer ws
-    unfolding then Each
-    read-on = read-caller ws budget (granted ws) (first-none _ ws (le-ltb 16005 (length ws) short, (inside-test 1 1000000 budget low high, tt)))
-
-    pub read-bad-word : (number place : ℕ) → read-from at-head 0 ws ≡ refused number place → read ws budget ≡ refused number place
+  module _ (m : Model) (reads : read-from at-head 0 ws ≡ granted m) where
+    read-whole : read ws budget ≡ first-of (model-findings m) m
     unfolding then
-    read-bad-word number place e = read-on ∙ rw e
+    read-whole = read-on ∙ rw reads
 
-    module _ (m : Model) (reads : read-from at-head 0 ws ≡ granted m) where
-      read-whole : read ws budget ≡ first-of (model-findings m) m
-      unfolding then
-      read-whole = read-on ∙ rw reads
+    pub read-uneven : 0 < lowest-uneven (m .net) (m .states) 1 → read ws budget ≡ refused 10 (lowest-uneven (m .net) (m .states) 1)
+    read-uneven h = read-whole ∙ first-here _ _ m (lt-ltb 0 (lowest-uneven (m .net) (m .states) 1) h)
 
-      pub read-uneven : 0 < lowest-uneven (m .net) (m .states) 1 → read ws budget ≡ refused 10 (lowest-uneven (m .net) (m .states) 1)
-      read-uneven h = read-whole ∙ first-here _ _ m (lt-ltb 0 (lowest-uneven (m .net) (m .states) 1) h)
+    module _ (even : lowest-uneven (m .net) (m .states) 1 ≡ 0) where
+      past : ltb 0 (lowest-uneven (m .net) (m .states) 1) ≡ false
+      past = rw even
 
-      module _ (even : lowest-uneven (m .net) (m .states) 1 ≡ 0) where
-        past : ltb 0 (lowest-uneven (m .net) (m .states) 1) ≡ false
-        past = rw even
+      pub read-no-exits : is-empty (exits (m .net) (m .net .start)) ≡ true → read ws budget ≡ refused 11 (m .net .start)
+      read-no-exits e = read-whole ∙ first-past _ _ m past ∙ first-here _ _ m e
 
-        pub read-no-exits : is-empty (exits (m .net) (m .net .start)) ≡ true → read ws budget ≡ refused 11 (m .net .start)
-        read-no-exits e = read-whole ∙ first-past _ _ m past ∙ first-here _ _ m e
-
-        pub read-grants : is-empty (exits (m .net) (m .net .start)) ≡ false → read ws budget ≡ granted m
-        unfolding Each
-        read-grants e = read-whole ∙ first-none _ m (past, (e, tt))
+      pub read-grants : is-empty (exits (m .net) (m .net .start)) ≡ false → read ws budget ≡ granted m
+      unfolding Each
+      read-grants e = read-whole ∙ first-none _ m (past, (e, tt))
 
 -- ---- what a granted model says of the words and the budget
 
