@@ -1,5 +1,6 @@
 pub mod Marked
 pub mod Least
+pub mod Positive
 pub mod Lists
 pub mod Outcomes
 pub mod Visits
