@@ -1,24 +1,20 @@
 -- Figures that err upward, by a factor. Assumes nothing.
-use mathlib.Core.List.{List, foldl}
 use Prim.Native.Nat.{ℕ, suc, _+_, _^_, _≤_, _<_, max}
 use native.Mathlib.Nat.{zero-lt-suc}
 use native.Mathlib.Omega.{arith}
 use lib.IntN.{pos}
-use lib.ListN.{length}
-use Rattle.fraction.proofs.Ratio.{Ratio, _≈_, ofℕ, _⊕_, _⊗_, ≈-refl, ≈-sym, ⊗-cong, ⊗-zero, ofℕ-pos}
+use Rattle.fraction.proofs.Ratio.{Ratio, _≈_, ofℕ, _⊕_, _⊗_, ≈-refl, ≈-sym, ⊗-cong, ofℕ-pos}
 use Rattle.fraction.proofs.Inverse.{inv, _over_}
 use Rattle.fraction.proofs.PowersOfTen.{ten-to, ten-nat}
 use Rattle.fraction.proofs.Within.{Within, within-inv}
 use Rattle.fraction.proofs.Signed.{signed, signed-ratio, ≈-signed}
-use Rattle.model.proofs.Valid.{Each}
 use Rattle.figure.specs.declared.Figure.{Figure}
-use Rattle.figure.specs.Rounding.{none, up}
+use Rattle.figure.specs.Rounding.{up}
 use Rattle.figure.specs.Operations.{times-up, plus-up, divided-up, times-ten, of-whole, of-quantity}
 use Rattle.figure.proofs.Value.{val, value-is}
 use Rattle.figure.proofs.Operations.{value-times, value-plus, value-divided}
 use Rattle.figure.proofs.Exact.{natural-times-ten, of-quantity-exact}
 use Rattle.accuracy.proofs.Roundings.{ρ, rounded-up, roundings-none, roundings-≤, within-≈, roundings-trans, roundings-⊗, roundings-scale, roundings-⊕}
-use Rattle.accuracy.proofs.Folds.{fold-count}
 use Rattle.accuracy.proofs.Under.{Under, under-exact, under-pos, whole-is}
 
 -- the figure f is x, or above it by at most n roundings; a record, so that n, f and x can be inferred
@@ -27,9 +23,6 @@ pub record Near (n : ℕ) (f : Figure) (x : Ratio) : Type 0 where
 
 pub near-exact : {f : Figure} {x : Ratio} → val f ≈ x → Near 0 f x
 near-exact {f} e = record { within = within-≈ (≈-refl _) e (roundings-none (val f)) }
-
-pub near-refl : (f : Figure) → Near 0 f (val f)
-near-refl f = near-exact (≈-refl _)
 
 pub near-≤ : {m : ℕ} (n : ℕ) {f : Figure} {x : Ratio} → m ≤ n → Near m f x → Near n f x
 near-≤ {m} n h p = record { within = roundings-≤ m n h (p .within) }
@@ -80,9 +73,6 @@ near-whole k h = near-exact (whole-is k h)
 pub quantity-is : (c p : ℕ) → c < 10 ^ 9 → val (of-quantity c p) ≈ c over (10 ^ p)
 quantity-is c p h = ≈-signed (rw (value-is (of-quantity c p), ← signed-ratio c (10 ^ p)) at (of-quantity-exact c p h))
 
-pub near-quantity : (c p : ℕ) → c < 10 ^ 9 → Near 0 (of-quantity c p) (c over (10 ^ p))
-near-quantity c p h = near-exact (quantity-is c p h)
-
 -- ---- running sums: each member of a list adds a term that is near, or nothing
 
 -- a term that errs no more than the sum so far
@@ -91,9 +81,3 @@ near-add {k = k} h p q = near-≤ (k + 1) (omega arith) (near-plus p q)
 
 pub near-keep : {k : ℕ} {f : Figure} {x : Ratio} → Near k f x → Near (k + 1) f x
 near-keep {k} p = near-≤ (k + 1) (omega arith) p
-
--- from 0 on: n for a term, and one for each member
-module _ {A : Type 0} (Q : A → Type 0) (rounded : Figure → A → Figure) (exact : Ratio → A → Ratio) (n : ℕ)
-    (step : (k : ℕ) (f : Figure) (x : Ratio) (a : A) → Q a → n ≤ k → Near k f x → Near (k + 1) (rounded f a) (exact x a)) where
-  pub near-sum : (xs : List A) → Each Q xs → Near (n + length xs) (foldl rounded none xs) (foldl exact (ofℕ 0) xs)
-  near-sum xs w = fold-count Near Q rounded exact n step n xs w (omega arith) (near-≤ n (omega arith) (near-exact (⊗-zero _)))

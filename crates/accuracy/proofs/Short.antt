@@ -25,9 +25,6 @@ pub record Short (n : ℕ) (f : Figure) (x u : Ratio) : Type 0 where
 pub short-exact : {f : Figure} {x : Ratio} → val f ≈ x → Short 0 f x x
 short-exact {f} {x} e = record { lacks = lacks-≈ (≈-sym e) (≈-refl x) (≈-refl x) (lacks-refl (parts 0) x) }
 
-pub short-refl : (f : Figure) → Short 0 f (val f) (val f)
-short-refl f = short-exact (≈-refl _)
-
 -- nothing is short of nothing
 pub short-none : (n : ℕ) (u : Ratio) → Short n none (ofℕ 0) u
 short-none n u = record { lacks = record { low = ≈-le (⊗-zero _); high = zero-≼ _; cap = zero-≼ u } }

@@ -1,20 +1,16 @@
 -- Figures that err downward, by a factor. Assumes nothing.
-use mathlib.Core.List.{List, foldl}
 use Prim.Native.Nat.{ℕ, zero, suc, _+_, _*_, _^_, _≤_, _<_, max}
 use native.Mathlib.Nat.{zero-lt-suc}
 use native.Mathlib.Omega.{arith}
-use lib.ListN.{length}
-use Rattle.fraction.proofs.Ratio.{Ratio, _≈_, ofℕ, _⊕_, _⊗_, ≈-refl, ⊗-zero, pos-≼}
+use Rattle.fraction.proofs.Ratio.{Ratio, _≈_, ofℕ, _⊕_, _⊗_, ≈-refl, pos-≼}
 use Rattle.fraction.proofs.Within.{Within}
 use Rattle.fraction.proofs.Signed.{signed, signed-whole}
-use Rattle.model.proofs.Valid.{Each}
 use Rattle.figure.specs.declared.Figure.{Figure}
-use Rattle.figure.specs.Rounding.{none, down}
+use Rattle.figure.specs.Rounding.{down}
 use Rattle.figure.specs.Operations.{times-down, plus-down, of-whole}
 use Rattle.figure.proofs.Value.{val}
 use Rattle.figure.proofs.Operations.{value-times, value-plus}
 use Rattle.figure.proofs.Exact.{exact-down, whole-exact}
-use Rattle.accuracy.proofs.Folds.{fold-count}
 use Rattle.accuracy.proofs.Roundings.{ρ, rounded-down, roundings-none, roundings-≤, within-≈, roundings-trans, roundings-⊗, roundings-⊕}
 
 -- the figure f is x, or below it by at most n roundings; a record, so that n, f and x can be inferred
@@ -24,14 +20,8 @@ pub record Under (n : ℕ) (f : Figure) (x : Ratio) : Type 0 where
 pub under-exact : {f : Figure} {x : Ratio} → val f ≈ x → Under 0 f x
 under-exact {f} e = record { within = within-≈ e (≈-refl _) (roundings-none (val f)) }
 
-pub under-refl : (f : Figure) → Under 0 f (val f)
-under-refl f = under-exact (≈-refl _)
-
 pub under-≤ : {m : ℕ} (n : ℕ) {f : Figure} {x : Ratio} → m ≤ n → Under m f x → Under n f x
 under-≤ {m} n h p = record { within = roundings-≤ m n h (p .within) }
-
-pub under-≈ : {n : ℕ} {f : Figure} {x y : Ratio} → x ≈ y → Under n f x → Under n f y
-under-≈ e p = record { within = within-≈ e (≈-refl _) (p .within) }
 
 factor-pos : (x y : Ratio) → 0 < (x ⊗ y) .num → 0 < x .num
 unfolding _⊗_
@@ -78,8 +68,3 @@ under-add {k = k} h p q = under-≤ (k + 1) (omega arith) (under-plus p q)
 
 pub under-keep : {k : ℕ} {f : Figure} {x : Ratio} → Under k f x → Under (k + 1) f x
 under-keep {k} p = under-≤ (k + 1) (omega arith) p
-
-module _ {A : Type 0} (Q : A → Type 0) (rounded : Figure → A → Figure) (exact : Ratio → A → Ratio) (n : ℕ)
-    (step : (k : ℕ) (f : Figure) (x : Ratio) (a : A) → Q a → n ≤ k → Under k f x → Under (k + 1) (rounded f a) (exact x a)) where
-  pub under-sum : (xs : List A) → Each Q xs → Under (n + length xs) (foldl rounded none xs) (foldl exact (ofℕ 0) xs)
-  under-sum xs w = fold-count Under Q rounded exact n step n xs w (omega arith) (under-≤ n (omega arith) (under-exact (⊗-zero _)))
