@@ -1,0 +1,1 @@
+// Bytes to words, and an answer to text.
