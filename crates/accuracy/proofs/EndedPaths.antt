@@ -108,11 +108,8 @@ module _ (U L : Path → Fraction) (upper lower : Path → Figure) (m n : ℕ) (
         y = natural-sum U cs
 
 -- the report of any list of death paths and any list of cut paths, by the rounded bounds of document 01
-pub report-accurate : (net : Net) (m n : ℕ) → m ≤ 499 → n ≤ 9998 → (ds cs : List Path) (steps : ℕ) → length ds ≤ 1000000 → length cs ≤ 1000000
-    → Each (λ p. NearTo m (upper net p) (exact-upper net p)) ds → Each (λ p. NearTo m (upper net p) (exact-upper net p)) cs
-    → Each (λ p. ShortOf n (lower net p) (exact-lower net p) (exact-upper net p)) ds
+pub report-accurate : (net : Net) (ds cs : List Path) (steps : ℕ)
+    → AccurateSums (exact-upper net) (exact-lower net) ds cs (sum-to-nine-up (total-of-uppers (upper net) ds) (total-of-uppers (upper net) cs)) (to-nine-down (total-of-lowers (lower net) ds))
     → Accurate net ds cs (report-of net ds cs steps)
 unfolding report-of upper-total lower-total exact-upper-sum exact-lower-sum death-upper-sum
-report-accurate net m n h k ds cs steps l j wd wc ld =
-    let a = sums-accurate (exact-upper net) (exact-lower net) (upper net) (lower net) m n h k ds cs l j wd wc ld in
-    record { upper-from = a .upper-from; upper-to = a .upper-to; lower-from = a .lower-from; lower-to = a .lower-to }
+report-accurate net ds cs steps a = record { upper-from = a .upper-from; upper-to = a .upper-to; lower-from = a .lower-from; lower-to = a .lower-to }

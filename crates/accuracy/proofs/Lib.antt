@@ -14,4 +14,5 @@ pub mod PathUpper
 pub mod ExactLower
 pub mod PathLower
 pub mod EndedPaths
+pub mod TreePaths
 pub mod Theorem
