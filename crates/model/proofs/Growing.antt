@@ -1,7 +1,7 @@
 -- A model while its words are read: what holds of it as long as its table grows, and that each word that is let through keeps it so. The code's
 -- reading stands on the same facts. Assumes nothing.
 use Prim.Native.Nat.{ℕ, _≤_, _<_}
-use mathlib.Core.Path.{_≡_, refl, sym, _∙_}
+use mathlib.Core.Path.{_≡_, sym, _∙_}
 use mathlib.Core.Bool.{Bool, true, false, true≢false}
 use mathlib.Core.List.{List, [], _∷_, _++_}
 use native.Mathlib.Omega.{arith}
@@ -12,12 +12,13 @@ use borrow.Author.Tests.{ltb-false, leb-false, eqb-false, eq-eqb}
 use Rattle.model.specs.declared.Quantity.{Quantity}
 use Rattle.model.specs.Model.{Manner, Transition, Model, is-fast, any, exits-in, exits}
 use Rattle.model.specs.Words.{kind, states-field, start-field, steps-field, entries-field, from-field, to-field, scale-field, coefficient-field, quantity}
-use Rattle.model.specs.Faults.{Fault, outside, head-faults, quantity-faults, caps-faults, same-test, same-transition, transition-faults}
+use Rattle.model.specs.Faults.{Fault, outside, head-faults, quantity-faults, caps-faults, same-transition, transition-faults}
 use Rattle.model.specs.Reading.{empty-model, with-transition}
 use Rattle.model.proofs.Valid.{Each, InRange, ValidManner, ValidTransition, SameTransition, Distinct}
 use Rattle.model.proofs.Members.{neither, each-monotone, each-append, each-one, any-none}
 use Rattle.model.proofs.Exits.{exits-more, exits-same, exits-fewer}
 use Rattle.model.proofs.Refusals.{inside}
+use Rattle.model.proofs.SameWord.{same-test-self}
 
 -- ---- what holds of a model whose table grows
 
@@ -54,10 +55,6 @@ pub record Admitted (fast? : Bool) (m : Model) (a b : ℕ) : Type 0 where
   pub few : length (m .net .table) < 4000
 
 -- ---- one transition more
-
-same-test-self : (b : Bool) → same-test b b ≡ true
-same-test-self true = refl
-same-test-self false = refl
 
 -- a transition that the test for the same kind, from and to tells from t is another than t
 differ : (fast? : Bool) (t u : Transition) → is-fast (t .manner) ≡ fast? → same-transition fast? (t .from) (t .to) u ≡ false

@@ -4,6 +4,7 @@ pub mod Exits
 pub mod Slots
 pub mod Refusals
 pub mod Numbers
+pub mod SameWord
 pub mod Probabilities
 pub mod Growing
 pub mod IndexGrowth
