@@ -58,3 +58,19 @@ walked budget m = let vs = tree (m .net) (m .limits) in then (first-of (walk-fin
 -- the answer to a list of words and a budget: "Order: 1, 2; then words from the left ..; after the end 10, 11; then the walk, 13."
 unfoldable pub answer : List ℕ → ℕ → Answer Report
 answer ws budget = then (read ws budget) (walked budget)
+
+-- ---- an answer as plain values
+
+-- a refusal's number and place, both 0 in a report, and the report's values
+pub record Values : Type 0 where
+  pub number : ℕ
+  pub place : ℕ
+  pub report : Report
+
+abbrev pub zero-report : Report
+zero-report = record { lower = none; upper = none; cut = none; deaths = 0; cuts = 0; steps = 0 }
+
+-- demand 1: "A refusal carries its number and place, every figure and count in it is zero"
+abbrev pub values : Answer Report → Values
+values (Answer.refused number place) = record { number = number; place = place; report = zero-report }
+values (Answer.granted r) = record { number = 0; place = 0; report = r }
