@@ -5,7 +5,7 @@ pub mod Slots
 pub mod Refusals
 pub mod Numbers
 pub mod SameWord
-pub mod Probabilities
+pub mod ProbabilitySum
 pub mod Growing
 pub mod IndexGrowth
 pub mod ReadValid
