@@ -5,7 +5,6 @@ pub mod Slots
 pub mod Refusals
 pub mod Numbers
 pub mod SameWord
-pub mod ProbabilitySum
 pub mod Growing
 pub mod IndexGrowth
 pub mod ReadValid

@@ -6,7 +6,7 @@ use mathlib.Core.Logic.{_⊎_, inl, inr}
 use mathlib.Core.List.{List, [], _∷_, _++_, map, List·Memᴰ, List·Memᴰ·head, List·Memᴰ·tail, List·Memᴰ·cases-cons}
 use native.Mathlib.Nat.{le-of-suc-le-suc, not-suc-le-zero}
 use native.Mathlib.Omega.{arith}
-use lib.ListN.{length, getD, take}
+use lib.ListN.{length, getD}
 use lib.Dec.{ltb, eqb, eqb·suc-zero}
 use borrow.Author.Tests.{lt-ltb, ltb-true}
 use Rattle.model.specs.Model.{only, any, is-empty}
@@ -34,12 +34,6 @@ module _ {A : Type 0} where
   unfolding Each
   each-append Q [] ys g h = h
   each-append Q (x ∷ xs) ys g h = (g .0, each-append Q xs ys (g .1) h)
-
-  pub each-take : (Q : A → Type 0) (n : ℕ) (xs : List A) → Each Q xs → Each Q (take n xs)
-  unfolding Each
-  each-take Q zero xs h = tt
-  each-take Q (suc n) [] h = tt
-  each-take Q (suc n) (x ∷ xs) h = (h .0, each-take Q n xs (h .1))
 
   pub each-one : (Q : A → Type 0) (x : A) → Q x → Each Q (x ∷ [])
   unfolding Each
