@@ -11,3 +11,4 @@ pub mod Ended
 pub mod Tally
 pub mod Answer
 pub mod Divisors
+pub mod Ranges
