@@ -1,17 +1,15 @@
 -- The exact lower of a path whose steps have the grains that g gives, step by step and with a natural numerator. Differences are cut off at 0: a
 -- factor that is zero or negative makes the product 0, as document 01 says of the lower. Assumes nothing.
-use mathlib.Core.Path.{_≡_, refl, sym, ap}
 use mathlib.Core.Bool.{Bool, true, false, not}
 use mathlib.Core.List.{List, [], _∷_, _++_}
-use Prim.Native.Nat.{ℕ, zero, suc, _+_, _*_, _^_, _≤_, _<_}
+use Prim.Native.Nat.{ℕ, _+_, _^_, _<_}
 use native.Mathlib.Omega.{arith, patom, plit}
 use lib.Dec.{T, leb, nleb→lt}
-use Rattle.fraction.specs.Fraction.{Fraction, whole, _+ᶠ_, _-ᶠ_, _*ᶠ_, _/ᶠ_, _^ᶠ_}
-use Rattle.fraction.proofs.Ratio.{Ratio, _≈_, ofℕ, _⊕_, _⊗_, _⊖_, ≈-refl, ≈-sym, ≈-trans, ⊕-cong, ⊗-cong, ⊗-comm, ⊕-comm, ⊕-zero}
+use Rattle.fraction.specs.Fraction.{Fraction, whole, _+ᶠ_, _-ᶠ_, _*ᶠ_, _/ᶠ_}
+use Rattle.fraction.proofs.Ratio.{Ratio, _≈_, ofℕ, _⊕_, _⊗_, _⊖_, ≈-refl, ≈-trans, ⊕-cong, ⊗-cong, ⊕-comm, ⊕-zero}
 use Rattle.fraction.proofs.Certificate.{_*'_, same-value}
 use Rattle.fraction.proofs.Inverse.{inv, inv-cong, inv-⊗, inv-inv}
 use Rattle.fraction.proofs.Powers.{pow, pow-⊗, pow-inv, pow-ofℕ}
-use Rattle.fraction.proofs.Signed.{nonnegative}
 use Rattle.model.specs.declared.Quantity.{Quantity}
 use Rattle.model.specs.Model.{Manner, slow, fast, Transition, Net, any}
 use Rattle.tree.specs.Paths.{Path, Class, class1, class2, class3, class, class1-count}

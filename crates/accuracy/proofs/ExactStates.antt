@@ -1,18 +1,17 @@
 -- The exact values of quantities and states, with natural numerators: a name that ends in ᴺ is the value of the definition of that name.
 -- Assumes nothing.
-use mathlib.Core.Path.{_≡_, refl, sym, _∙_, ap}
+use mathlib.Core.Path.{sym}
 use mathlib.Core.List.{List, [], _∷_}
-use Prim.Native.Nat.{ℕ, zero, suc, _+_, _*_, _^_, _≤_, _<_}
+use Prim.Native.Nat.{ℕ, _^_, _≤_}
 use native.Mathlib.Omega.{arith, patom, plit}
-use Rattle.fraction.specs.Fraction.{Fraction, whole, _+ᶠ_, _-ᶠ_, _*ᶠ_, _/ᶠ_}
-use Rattle.fraction.proofs.Ratio.{Ratio, _≼_, _≈_, ofℕ, _⊕_, _⊗_, _⊖_, ≼-refl, ≼-trans, ≈-refl, ≈-le, ≈-trans, ⊕-cong, ⊗-mono, ⊗-pos, ⊖-cap, ofℕ-≼, ofℕ-pos}
-use Rattle.fraction.proofs.Certificate.{_+'_, _*'_, same-value, prove, hyp}
-use Rattle.fraction.proofs.Inverse.{inv, inv-is, over-pos, _over_}
+use Rattle.fraction.specs.Fraction.{Fraction, whole, _-ᶠ_}
+use Rattle.fraction.proofs.Ratio.{Ratio, _≼_, _≈_, ofℕ, _⊕_, _⊗_, _⊖_, ≈-refl, ≈-le, ⊕-cong, ⊖-cap, ofℕ-≼, ofℕ-pos}
+use Rattle.fraction.proofs.Certificate.{_*'_, same-value, prove, hyp}
+use Rattle.fraction.proofs.Inverse.{inv, inv-is, _over_}
 use Rattle.fraction.proofs.Powers.{pow}
-use Rattle.fraction.proofs.Signed.{signed, signed-ratio, signed-⊖, signed-whole}
+use Rattle.fraction.proofs.Signed.{signed-ratio, signed-⊖, signed-whole}
 use Rattle.model.specs.declared.Quantity.{Quantity}
 use Rattle.model.specs.Model.{Manner, slow, fast, Transition, Net, exits}
-use Rattle.model.proofs.Valid.{Each, InRange}
 use Rattle.model.proofs.Members.{each-of-members}
 use Rattle.tree.specs.States.{sum-over}
 use Rattle.tree.specs.Lower.{exact, remaining-time}

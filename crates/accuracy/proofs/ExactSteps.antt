@@ -2,13 +2,13 @@
 -- the j-th class 1 step brings t / j. They are equal. Both forms take any time t and any factors of the class 2 and 3 steps, so that the upper
 -- and the lower are instances. Assumes nothing.
 use mathlib.Core.Path.{_≡_, refl}
-use mathlib.Core.List.{List, [], _∷_, _++_}
-use Prim.Native.Nat.{ℕ, zero, suc, _+_, _*_}
+use mathlib.Core.List.{[], _∷_, _++_}
+use Prim.Native.Nat.{ℕ, suc, _+_}
 use native.Mathlib.Omega.{arith, patom, plit}
-use Rattle.fraction.specs.Fraction.{Fraction, whole}
-use Rattle.fraction.proofs.Ratio.{Ratio, _≈_, ofℕ, _⊗_, ≈-refl, ≈-sym, ≈-trans, ⊗-cong, ofℕ-⊗}
+use Rattle.fraction.specs.Fraction.{Fraction}
+use Rattle.fraction.proofs.Ratio.{Ratio, _≈_, ofℕ, _⊗_, ≈-refl, ≈-trans, ⊗-cong, ofℕ-⊗}
 use Rattle.fraction.proofs.Certificate.{_*'_, same-value}
-use Rattle.fraction.proofs.Inverse.{inv, inv-cong, inv-⊗, inv-ofℕ, _over_}
+use Rattle.fraction.proofs.Inverse.{inv, inv-cong, inv-⊗, _over_}
 use Rattle.fraction.proofs.Powers.{pow}
 use Rattle.model.specs.Model.{Manner, Transition, Net}
 use Rattle.tree.specs.Paths.{Path, Class, class1, class2, class3, class, class1-count, counts-1}

@@ -1,11 +1,8 @@
 -- The exact upper of a path, step by step and with a natural numerator: "class 1 .. rates times T^k / k!, times q for each class 2 step, times
 -- rate × h for each class 3 step". Assumes nothing.
-use mathlib.Core.Path.{_≡_, refl}
-use mathlib.Core.List.{List, [], _∷_, _++_}
-use Prim.Native.Nat.{ℕ, zero, suc, _+_}
-use Rattle.fraction.specs.Fraction.{Fraction, whole}
-use Rattle.fraction.proofs.Ratio.{Ratio, _≈_, ofℕ, _⊗_}
-use Rattle.model.specs.Model.{Manner, Transition, Net}
+use mathlib.Core.List.{[], _∷_, _++_}
+use Rattle.fraction.proofs.Ratio.{Ratio, ofℕ, _⊗_}
+use Rattle.model.specs.Model.{Transition, Net}
 use Rattle.tree.specs.Paths.{Path, Class, class1, class2, class3, class, class1-count}
 use Rattle.accuracy.specs.Bounds.{product, upper-factor, upper-factors, exact-upper}
 use Rattle.accuracy.proofs.Natural.{_is_, is-≈, is-whole, is-product}

@@ -1,21 +1,22 @@
 -- Exact values with natural numerators. A definition of specs/ is a signed fraction; `x is r` says that x is not negative and that r, a fraction
 -- with a natural numerator, equals it; `x clips-to r` says that r is x, or 0 where x is negative. Assumes nothing.
 use mathlib.Core.Path.{_≡_, refl, sym, _∙_, ap, ap₂}
-use mathlib.Core.Bool.{Bool, true, false, _||_, true≢false, false≢true}
+use mathlib.Core.Bool.{Bool, true, false, _||_, false≢true}
 use mathlib.Core.List.{List, [], _∷_}
-use mathlib.Core.Logic.{_⊎_, inl, inr, ⊎-elim}
-use Prim.Native.Nat.{ℕ, zero, suc, _+_, _*_, _-_, _≤_, _<_}
-use native.Mathlib.Nat.{lt-irrefl}
+use mathlib.Core.Logic.{⊎-elim}
+use Prim.Native.Nat.{ℕ, zero, suc, _*_}
+use native.Mathlib.Nat.{mul-pos}
 use native.Mathlib.Omega.{arith}
-use lib.Dec.{T}
-use lib.IntN.{ℤ, pos, negsuc, negℤ, _-ℤ_, _*ℤ_}
-use lib.Signed.{_≤ℤ_, leZ}
-use Rattle.fraction.specs.Fraction.{Fraction, whole, at-most, inverse, _+ᶠ_, _-ᶠ_, _*ᶠ_, _/ᶠ_, _^ᶠ_}
-use Rattle.fraction.proofs.Integers.{natural, deficit, Is, is-self, is-pos, is-minus, is-times, is-≤, ≤-is}
-use Rattle.fraction.proofs.Ratio.{Ratio, _≼_, _≈_, ofℕ, _⊕_, _⊗_, _⊖_, ≈-refl, ≈-sym, ≈-trans, ≈-le, ≈-ge, ≼-antisym, ⊕-cong, ⊗-cong, ⊖-mono, zero-or-pos, num-zero}
+use lib.IntN.{ℤ, pos, negsuc, negℤ, _*ℤ_}
+use Rattle.fraction.specs.Fraction.{Fraction, _≤ᶠ_, _≈ᶠ_, whole, _+ᶠ_, _-ᶠ_, _*ᶠ_, _/ᶠ_, _^ᶠ_}
+use Rattle.fraction.proofs.Integers.{natural}
+use Rattle.fraction.proofs.Ratio.{Ratio, _≈_, ofℕ, _⊕_, _⊗_, _⊖_, ≈-refl, ≈-sym, ≈-trans, ≈-le, ≈-ge, ≼-antisym, ⊕-cong, ⊗-cong, ⊖-mono, num-zero}
 use Rattle.fraction.proofs.Inverse.{inv, inv-cong}
 use Rattle.fraction.proofs.Powers.{pow, pow-cong}
-use Rattle.fraction.proofs.Signed.{signed, nonnegative, nonnegative-signed, nonnegative-minus, signed-whole, signed-⊕, signed-⊗, signed-quotient, signed-pow}
+use Rattle.fraction.proofs.Signed.{signed, nonnegative, nonnegative-signed, nonnegative-minus, signed-nonnegative, signed-whole, signed-⊕, signed-⊗, signed-quotient, signed-pow}
+use Rattle.fraction.proofs.Laws.{≤ᶠ-or, at-most-iff, ≈ᶠ-≤, ≈ᶠ-≥, -ᶠ--ᶠ}
+use Rattle.figure.proofs.Nonnegative.{nonnegative-≼}
+use Rattle.figure.proofs.Nonnegative as Nonnegative
 use Rattle.model.specs.Model.{any}
 use Rattle.model.proofs.Members.{neither}
 use Rattle.accuracy.specs.Bounds.{product, not-positive}
@@ -84,25 +85,12 @@ pub ⊖-cong : {x x′ y y′ : Ratio} → x ≈ x′ → y ≈ y′ → x ⊖ y
 pub clip-minus : {x y : Fraction} {r s : Ratio} → x is r → y is s → x -ᶠ y clips-to r ⊖ s
 clip-minus p q = record { clip = rw (p .equal, q .equal, nonnegative-minus (p .held) (q .held)) (⊖-cong (p .same) (q .same)) }
 
--- a whole number that is p less n is, clipped, the difference of naturals
-natural-is : (z : ℤ) {p n : ℕ} → Is z p n → natural z ≡ p - n
-natural-is (pos k) h = omega (arith, h .is)
-natural-is (negsuc k) h = omega (arith, h .is)
-
 -- two differences one after the other take off the sum
-twice : (x y z : Ratio) → nonnegative (signed x -ᶠ signed y -ᶠ signed z) ≈ x ⊖ (y ⊕ z)
-unfolding nonnegative signed _-ᶠ_ _⊖_ _⊕_
-twice x y z = record {
-  eq = rw (natural-is ((pos (x .num * y .den) -ℤ pos (y .num * x .den)) *ℤ pos (z .den) -ℤ pos (z .num * (x .den * y .den)))
-      (is-minus (is-times (is-minus (is-pos (x .num * y .den)) (is-pos (y .num * x .den))) (is-pos (z .den))) (is-pos (z .num * (x .den * y .den)))))
-      (go (x .num) (x .den) (y .num) (y .den) (z .num) (z .den));
-}
-  where
-    go : (a b c d e f : ℕ) → (((a * d + 0) * f + (0 + c * b) * 0 + 0) - ((a * d + 0) * 0 + (0 + c * b) * f + e * (b * d))) * (b * (d * f)) ≡ (a * (d * f) - (c * f + e * d) * b) * (b * d * f)
-    go a b c d e f = ap₂ _*_ (ap₂ _-_ (omega arith) (omega arith)) (omega arith)
-
 pub clip-twice : {x y z : Fraction} {r s t : Ratio} → x is r → y is s → z is t → x -ᶠ y -ᶠ z clips-to r ⊖ (s ⊕ t)
-clip-twice p q w = record { clip = rw (p .equal, q .equal, w .equal) (≈-trans (twice (p .held) (q .held) (w .held)) (⊖-cong (p .same) (⊕-cong (q .same) (w .same)))) }
+clip-twice {x} {y} {z} p q w = clip-same (-ᶠ--ᶠ x y z) (clip-minus p (is-plus q w))
+  where
+    clip-same : {x y : Fraction} {r : Ratio} → x ≈ᶠ y → y clips-to r → x clips-to r
+    clip-same e h = record { clip = ≈-trans (≼-antisym (nonnegative-≼ (≈ᶠ-≤ e)) (nonnegative-≼ (≈ᶠ-≥ e))) (h .clip) }
 
 natural-times : (a : ℕ) (z : ℤ) → natural (pos a *ℤ z) ≡ a * natural z
 natural-times a (pos n) = refl
@@ -117,7 +105,7 @@ unfolding nonnegative signed _*ᶠ_ _⊗_
 clip-times x y = λ i. record {
   num = natural-times (x .num) (y .num) i;
   den = x .den * y .den;
-  den-pos = native.Mathlib.Nat.mul-pos (x .den-pos) (y .den-pos);
+  den-pos = mul-pos (x .den-pos) (y .den-pos);
 }
 
 pub clip-product : {x y : Fraction} {r s : Ratio} → x is r → y clips-to s → x *ᶠ y clips-to r ⊗ s
@@ -131,28 +119,11 @@ clipped (x ∷ xs) = nonnegative x ⊗ clipped xs
 
 -- a factor that is zero or negative is clipped to 0
 clip-zero : (x : Fraction) → not-positive x ≡ true → (nonnegative x) .num ≡ 0
-unfolding at-most whole nonnegative
-clip-zero x e = go (x .num) (≤-is (is-times (is-self (x .num)) (is-pos 1)) (is-times (is-pos 0) (is-pos (x .den))) (record { le = rw e tt }))
-  where
-    go : (z : ℤ) → natural z * 1 + deficit z * 0 + (0 * 0 + 0 * x .den) ≤ 0 * x .den + 0 * 0 + (natural z * 0 + deficit z * 1) → natural z ≡ 0
-    go (pos n) h = omega arith
-    go (negsuc n) h = refl
+clip-zero x e = Nonnegative.not-positive x (at-most-iff x (whole 0) .0 (rw e tt))
 
 -- any other is what it was
 clip-keeps : (x : Fraction) → not-positive x ≡ false → x ≡ signed (nonnegative x)
-unfolding at-most whole nonnegative signed
-clip-keeps x e = go (x .num) e
-  where
-    go : (z : ℤ) → leZ (z *ℤ pos 1) (pos 0 *ℤ pos (x .den)) ≡ false → _≡_ {A = Fraction} (record { num = z; den = x .den; den-pos = x .den-pos }) (record { num = pos (natural z); den = x .den; den-pos = x .den-pos })
-    go (pos n) h = refl
-    go (negsuc n) h = absurd (true≢false (sym (holds (is-≤ (is-times (is-self (negsuc n)) (is-pos 1)) (is-times (is-pos 0) (is-pos (x .den))) (omega arith))) ∙ h))
-      where
-        holds : {a b : ℤ} → a ≤ℤ b → leZ a b ≡ true
-        holds {a} {b} p = test (leZ a b) (p .le)
-          where
-            test : (t : Bool) → T t → t ≡ true
-            test true w = refl
-            test false w = absurd w
+clip-keeps x e = ⊎-elim (λ h. absurd (rw e at (at-most-iff x (whole 0) .1 h))) (λ h. sym (signed-nonnegative h)) (≤ᶠ-or x (whole 0))
 
 any-clips : (xs : List Fraction) → any not-positive xs ≡ true → (clipped xs) .num ≡ 0
 unfolding any clipped _⊗_

@@ -1,34 +1,31 @@
 -- The rounded lower of a path of at most 24 steps is at or below the exact one, by at most 1,500 parts of 10^-8 of the path's exact upper: 60 for a
 -- step, and those of the last factor. It holds for any grains, at least 1 for each class 2 or 3 step. Assumes nothing.
-use mathlib.Core.Path.{_≡_, refl, ap}
+use mathlib.Core.Path.{_≡_}
 use mathlib.Core.Bool.{Bool, true, false, not}
-use mathlib.Core.List.{List, [], _∷_}
-use Prim.Native.Nat.{ℕ, zero, suc, _+_, _*_, _^_, _≤_, _<_}
+use mathlib.Core.List.{[], _∷_}
+use Prim.Native.Nat.{ℕ, suc, _+_, _*_, _^_, _≤_, _<_}
 use native.Mathlib.Nat.{one-le-pow}
 use native.Mathlib.Omega.{arith}
 use lib.Dec.{T, leb, nleb→lt, lit≤}
-use lib.IntN.{pos}
 use lib.ListN.{length}
 use Rattle.fraction.specs.Fraction.{Fraction}
-use Rattle.fraction.proofs.Ratio.{Ratio, _≈_, ofℕ, _⊕_, _⊗_, _⊖_, ≈-refl, ≈-sym, ≈-trans, ⊗-comm, ⊗-one, ⊗-zero, ⊗-assoc, ⊗-pos, ofℕ-pos}
+use Rattle.fraction.proofs.Ratio.{Ratio, _≈_, ofℕ, _⊗_, ≈-refl, ≈-trans, ⊗-comm, ⊗-one, ⊗-zero, ⊗-pos, ofℕ-pos}
 use Rattle.fraction.proofs.Inverse.{inv}
 use Rattle.figure.specs.declared.Figure.{Figure}
 use Rattle.figure.specs.Rounding.{none, up, down}
-use Rattle.figure.specs.Operations.{times-up, times-down, plus-up, divided-up, times-ten, of-whole}
-use Rattle.figure.proofs.Value.{val}
+use Rattle.figure.specs.Operations.{times-up, times-down, divided-up, of-whole}
 use Rattle.model.specs.declared.Quantity.{Quantity}
 use Rattle.model.specs.Model.{Manner, slow, fast, Transition, Net, Model}
 use Rattle.model.proofs.Valid.{Each, InRange, ValidManner, Valid}
 use Rattle.tree.specs.Paths.{Path, Class, class1, class2, class3, class, class1-count, counts-1}
-use Rattle.tree.specs.States.{figure-of, mission-time, time-squared, second-moment, rate-sum, mean-down, moment-sum}
-use Rattle.tree.specs.Upper.{share}
+use Rattle.tree.specs.States.{mission-time, time-squared, rate-sum}
 use Rattle.tree.specs.Grains.{grain-sum}
 use Rattle.tree.specs.Lower.{remaining-time, class2-loss, class3-loss, class2-factor, class3-factor, lower-step, lower-product, add-rates, path-rate-sum, last-factor, lower-with}
-use Rattle.accuracy.proofs.Near.{Near, near-exact, near-≤, near-≈, near-times, near-plus, near-add, near-keep, near-divided, near-by-whole, near-ten, up-near}
-use Rattle.accuracy.proofs.Under.{Under, under-exact, under-≤, under-times, under-whole, whole-is}
+use Rattle.accuracy.proofs.Near.{Near, near-exact, near-≤, near-≈, near-times, near-plus, near-add, near-divided, near-by-whole, near-ten, up-near}
+use Rattle.accuracy.proofs.Under.{Under, under-times, under-whole, whole-is}
 use Rattle.accuracy.proofs.Short.{Short, short-exact, short-none, short-≤, short-cap, short-≈, short-under, down-short, short-times, short-by-whole, short-minus}
 use Rattle.accuracy.proofs.Natural.{_is_}
-use Rattle.accuracy.proofs.ExactStates.{exactᴺ, momentᴺ, shareᴺ, rate-sumᴺ, meanᴺ, moment-sumᴺ, timeᴺ, remaining-timeᴺ, remaining-time-is, remaining-time-≼}
+use Rattle.accuracy.proofs.ExactStates.{shareᴺ, rate-sumᴺ, meanᴺ, timeᴺ, remaining-timeᴺ, remaining-time-is, remaining-time-≼}
 use Rattle.accuracy.proofs.ExactSteps.{stepᴺ, steppedᴺ}
 use Rattle.accuracy.proofs.ExactUpper.{upper-valueᴺ, upperᴺ}
 use Rattle.accuracy.proofs.ExactLower.{class2-lossᴺ, class3-lossᴺ, class2-valueᴺ, class3-valueᴺ, lower-valueᴺ, add-ratesᴺ, path-rate-sumᴺ, last-valueᴺ, lowerᴺ}

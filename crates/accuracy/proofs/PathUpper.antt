@@ -1,15 +1,14 @@
 -- The rounded upper of a path of at most 24 steps is at or above the exact one, by at most 19 roundings a step. Assumes nothing.
-use mathlib.Core.Path.{_≡_, refl}
-use mathlib.Core.List.{List, [], _∷_}
-use Prim.Native.Nat.{ℕ, zero, suc, _+_, _*_, _^_, _≤_, _<_}
+use mathlib.Core.Path.{_≡_}
+use mathlib.Core.List.{[], _∷_}
+use Prim.Native.Nat.{ℕ, suc, _+_, _*_, _^_, _≤_, _<_}
 use native.Mathlib.Nat.{le-trans}
 use native.Mathlib.Omega.{arith}
 use lib.Dec.{lit≤}
 use lib.ListN.{length}
-use Rattle.fraction.proofs.Ratio.{Ratio, _≈_, ofℕ, _⊗_, ⊗-assoc}
-use Rattle.fraction.proofs.Inverse.{inv}
+use Rattle.fraction.proofs.Ratio.{Ratio, ⊗-assoc}
 use Rattle.figure.specs.declared.Figure.{Figure}
-use Rattle.model.specs.Model.{Manner, Transition, Net, Model}
+use Rattle.model.specs.Model.{Transition, Net, Model}
 use Rattle.model.proofs.Valid.{Each, ValidManner, Valid}
 use Rattle.tree.specs.Paths.{Path, Class, class1, class2, class3, class, class1-count, counts-1}
 use Rattle.tree.specs.Upper.{upper-step, upper}

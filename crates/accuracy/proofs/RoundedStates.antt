@@ -1,28 +1,26 @@
 -- The rounded values of quantities and states against the exact ones, in roundings. A state of a valid model has at most 16 exits, so E errs by
 -- at most 16 roundings, h by 17 and H by 19. Assumes nothing.
-use mathlib.Core.Path.{_≡_, refl}
-use mathlib.Core.List.{List, [], _∷_, foldl}
-use Prim.Native.Nat.{ℕ, zero, suc, _+_, _*_, _^_, _≤_, _<_}
+use Prim.Native.Nat.{ℕ, _+_, _^_, _≤_, _<_}
 use native.Mathlib.Omega.{arith}
 use lib.Dec.{lit≤}
 use native.Mathlib.Nat.{le-trans}
 use lib.ListN.{length}
-use Rattle.fraction.proofs.Ratio.{Ratio, _≼_, _≈_, ofℕ, _⊕_, _⊗_, ⊗-zero}
-use Rattle.fraction.proofs.Inverse.{inv, over-pos}
+use Rattle.fraction.proofs.Ratio.{Ratio, _≈_, ofℕ, ⊗-zero}
+use Rattle.fraction.proofs.Inverse.{over-pos}
 use Rattle.figure.specs.declared.Figure.{Figure}
 use Rattle.figure.specs.Rounding.{none}
 use Rattle.figure.proofs.Value.{val}
 use Rattle.figure.proofs.Scale.{pow-pos}
 use Rattle.model.specs.declared.Quantity.{Quantity}
-use Rattle.model.specs.Model.{Manner, slow, fast, Transition, Net, Model, exits}
-use Rattle.model.proofs.Valid.{Each, InRange, ValidManner, ValidTransition, Valid}
+use Rattle.model.specs.Model.{Manner, slow, fast, Model, exits}
+use Rattle.model.proofs.Valid.{InRange, ValidManner, ValidTransition, Valid}
 use Rattle.model.proofs.Exits.{exits-each}
-use Rattle.tree.specs.States.{figure-of, mission-time, second-moment, sum-over, add-rate, add-mean-up, add-mean-down, add-moment, rate-sum, mean-up, mean-down, moment-sum}
+use Rattle.tree.specs.States.{figure-of, second-moment, sum-over, add-rate, add-mean-up, add-mean-down, add-moment, rate-sum, mean-up, mean-down, moment-sum}
 use Rattle.tree.specs.Upper.{share}
 use Rattle.accuracy.proofs.Folds.{fold-count}
 use Rattle.accuracy.proofs.Near.{Near, near-exact, near-≤, near-times, near-plus, near-add, near-keep, quantity-is}
 use Rattle.accuracy.proofs.Under.{Under, under-exact, under-≤, under-times, under-add, under-keep}
-use Rattle.accuracy.proofs.ExactStates.{exactᴺ, momentᴺ, shareᴺ, add-rateᴺ, add-meanᴺ, add-momentᴺ, rate-sumᴺ, meanᴺ, moment-sumᴺ, timeᴺ}
+use Rattle.accuracy.proofs.ExactStates.{exactᴺ, momentᴺ, shareᴺ, add-rateᴺ, add-meanᴺ, add-momentᴺ, rate-sumᴺ, meanᴺ, moment-sumᴺ}
 
 -- ---- quantities are exact
 

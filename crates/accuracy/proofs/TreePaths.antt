@@ -1,6 +1,5 @@
 -- The ended paths of a valid model's cut tree: their steps are exits of the model, at most 24, so their uppers are near and their lowers short. Hence
 -- the accuracy rule of the report on the tree, for any grains and then for document 01's. Assumes nothing.
-use mathlib.Core.Path.{_≡_}
 use mathlib.Core.Bool.{Bool}
 use mathlib.Core.HLevel.{×-prop}
 use mathlib.Core.Logic.{∥∥₁-elim}

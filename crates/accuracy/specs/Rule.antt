@@ -6,7 +6,7 @@ use mathlib.Core.List.{List, [], _∷_}
 use lib.IntN.{pos}
 use Rattle.fraction.specs.Fraction.{Fraction, _≤ᶠ_, whole, ratio, _+ᶠ_, _-ᶠ_, _*ᶠ_, _/ᶠ_}
 use Rattle.figure.specs.Rounding.{value}
-use Rattle.model.specs.Model.{Net, Limits, Model}
+use Rattle.model.specs.Model.{Net, Model}
 use Rattle.model.specs.Reading.{Answer, read}
 use Rattle.tree.specs.Paths.{Path}
 use Rattle.tree.specs.Tree.{tree, deaths, cuts}

@@ -2,10 +2,9 @@
 -- its slow rates, the step's own included (so for class 2 it is the paper's epsilon; for classes 1 and 3 on-path plus off-path)."
 -- Assumes nothing: these are definitions.
 use Prim.Native.Nat.{ℕ}
-use mathlib.Core.List.{List, [], _∷_}
 use Rattle.fraction.specs.Fraction.{Fraction, whole, _+ᶠ_, _*ᶠ_, _^ᶠ_}
 use Rattle.model.specs.declared.Quantity.{Quantity}
-use Rattle.model.specs.Model.{Manner, slow, fast, Transition, Net, exits}
+use Rattle.model.specs.Model.{Manner, slow, fast, Net, exits}
 use Rattle.tree.specs.States.{sum-over}
 use Rattle.tree.specs.Lower.{exact}
 
