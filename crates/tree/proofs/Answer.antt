@@ -19,7 +19,8 @@ module _ (budget : ℕ) (m : Model) where
   walked-within h = rw (le-ltb budget (length (tree (m .net) (m .limits))) h, first-of, then)
 
 -- a refusal of the reading is the answer; a model that was read is walked
-pub answer-refused : (ws : List ℕ) (budget number place : ℕ) → read ws budget ≡ Answer.refused number place → answer ws budget ≡ Answer.refused number place
+pub answer-refused : (ws : List ℕ) (budget number place : ℕ) → read ws budget ≡ Answer.refused number place
+    → answer ws budget ≡ Answer.refused number place
 unfolding answer then
 answer-refused ws budget number place e = rw (e, then)
 

@@ -59,7 +59,8 @@ carry net t c =
 
 -- what becomes of a path that has n steps left, is at s, had entered s `before` times before, and has the upper u
 unfoldable pub outcome-by : Net → Limits → (n s before : ℕ) → Figure → Outcome
-outcome-by net limits n s before u = decided (is-empty (exits net s)) (leb (limits .entries) before) (eqb n 0) (at-or-below u (figure-of (limits .prune)))
+outcome-by net limits n s before u =
+    decided (is-empty (exits net s)) (leb (limits .entries) before) (eqb n 0) (at-or-below u (figure-of (limits .prune)))
 
 -- what becomes of what is carried after the step t
 abbrev pub outcome-next : Net → Limits → ℕ → Transition → Carried → Outcome
@@ -70,12 +71,17 @@ outcome-next net limits n t c = outcome-by net limits n (t .to) (getD (c .entere
 unfoldable pub carried-visits : Net → Limits → ℕ → Carried → List Visit
 carried-visits net limits zero c = []
 carried-visits net limits (suc n) c =
-    flatMap (λ t. let o = outcome-next net limits n t c in record { path = t ∷ c .path; outcome = o } ∷ elim (is-continued o) [ true ↦ carried-visits net limits n (carry net t c) | false ↦ [] ]) (exits net (c .state))
+    flatMap
+    (λ t.
+    let o = outcome-next net limits n t c in
+    record { path = t ∷ c .path; outcome = o } ∷ elim (is-continued o) [ true ↦ carried-visits net limits n (carry net t c) | false ↦ [] ])
+    (exits net (c .state))
 
 -- the visits through one exit
 unfoldable pub through : Net → Limits → ℕ → Carried → Transition → List Visit
 through net limits n c t =
-    record { path = t ∷ c .path; outcome = outcome-next net limits n t c } ∷ where-true (is-continued (outcome-next net limits n t c)) (carried-visits net limits n (carry net t c))
+    let o = outcome-next net limits n t c in
+    record { path = t ∷ c .path; outcome = o } ∷ where-true (is-continued o) (carried-visits net limits n (carry net t c))
 
 -- what is left of the visits beyond a path when i of its exits are walked
 unfoldable pub rest : Net → Limits → ℕ → Carried → ℕ → List Visit
@@ -90,7 +96,8 @@ module _ (net : Net) (limits : Limits) (n : ℕ) (c : Carried) where
   unfolding rest
   rest-all = sym carried-more
 
-  pub rest-more : (i : ℕ) → i < length (exits net (c .state)) → rest net limits n c i ≡ through net limits n c (getD (exits net (c .state)) i no-transition) ++ rest net limits n c (suc i)
+  pub rest-more : (i : ℕ) → i < length (exits net (c .state))
+      → rest net limits n c i ≡ through net limits n c (getD (exits net (c .state)) i no-transition) ++ rest net limits n c (suc i)
   unfolding rest flatMap
   rest-more i h = ap (flatMap (through net limits n c)) (drop-cons (exits net (c .state)) i no-transition h)
 
@@ -178,24 +185,32 @@ module _ (net : Net) (limits : Limits) (known : Each (λ t. t .to ≤ 1000) (net
   carried-is zero c h left = unfold carried-visits visits in refl
   carried-is (suc n) c h left =
       carried-more net limits n c
-      ∙ flatMap-same (through net limits n c) (λ t. visits-from net limits n (t ∷ c .path)) (exits net (c .state)) (λ t k. one t (each-member (λ u. u .to ≤ 1000) k small) (carried-is n (carry net t c)))
+      ∙ flatMap-same (through net limits n c) (λ t. visits-from net limits n (t ∷ c .path)) (exits net (c .state))
+      (λ t k. one t (each-member (λ u. u .to ≤ 1000) k small) (carried-is n (carry net t c)))
       ∙ ap (λ s. flatMap (λ t. visits-from net limits n (t ∷ c .path)) (exits net s)) (h .state)
       ∙ sym (visits-more net limits n (c .path))
     where
       small : Each (λ t. t .to ≤ 1000) (exits net (c .state))
       small = exits-each (λ t. t .to ≤ 1000) (net .table) (c .state) known
 
-      one : (t : Transition) → t .to ≤ 1000 → (Carries net (carry net t c) → n + length ((carry net t c) .path) ≡ limits .steps → carried-visits net limits n (carry net t c) ≡ visits net limits n ((carry net t c) .path)) → through net limits n c t ≡ visits-from net limits n (t ∷ c .path)
+      one : (t : Transition) → t .to ≤ 1000
+          → (Carries net (carry net t c) → n + length ((carry net t c) .path) ≡ limits .steps
+          → carried-visits net limits n (carry net t c) ≡ visits net limits n ((carry net t c) .path))
+          → through net limits n c t ≡ visits-from net limits n (t ∷ c .path)
       one t to below = unfold through visits-from carry in
-          ap₂ (λ o vs. record { path = t ∷ c .path; outcome = o } ∷ where-true (is-continued o) vs) (outcome-carried net t c to h limits n (omega arith)) (below (carry-carries net t c to h) (omega arith))
+          ap₂ (λ o vs. record { path = t ∷ c .path; outcome = o } ∷ where-true (is-continued o) vs)
+          (outcome-carried net t c to h limits n (omega arith)) (below (carry-carries net t c to h) (omega arith))
 
 pub valid-known : (m : Model) → Valid m → Each (λ t. t .to ≤ 1000) (m .net .table)
-valid-known m v = each-monotone (ValidTransition (m .states)) (λ t. t .to ≤ 1000) (λ t k. omega (arith, k .to-high, v .states-high)) (m .net .table) (v .table)
+valid-known m v =
+    each-monotone (ValidTransition (m .states)) (λ t. t .to ≤ 1000) (λ t k. omega (arith, k .to-high, v .states-high)) (m .net .table) (v .table)
 
 -- the law: from the start, what a walk carries goes through the tree
 pub carried-tree : (m : Model) → Valid m → carried-visits (m .net) (m .limits) (m .limits .steps) (at-start (m .net)) ≡ tree (m .net) (m .limits)
 unfolding at-start tree
-carried-tree m v = carried-is (m .net) (m .limits) (valid-known m v) (m .limits .steps) (at-start (m .net)) (start-carries (m .net) (omega (arith, v .start-high, v .states-high))) (omega arith)
+carried-tree m v =
+    carried-is (m .net) (m .limits) (valid-known m v) (m .limits .steps) (at-start (m .net))
+    (start-carries (m .net) (omega (arith, v .start-high, v .states-high))) (omega arith)
 
 -- ---- a path goes on: its state was entered less often than the limit, and steps are left
 
@@ -205,8 +220,14 @@ pub record GoesOnBy (net : Net) (limits : Limits) (n s before : ℕ) (u : Figure
   pub left : 0 < n
   pub level : at-or-below u (figure-of (limits .prune)) ≡ false
 
-pub continued-by : (net : Net) (limits : Limits) (n s before : ℕ) (u : Figure) → outcome-by net limits n s before u ≡ continued → GoesOnBy net limits n s before u
+pub continued-by : (net : Net) (limits : Limits) (n s before : ℕ) (u : Figure) → outcome-by net limits n s before u ≡ continued
+    → GoesOnBy net limits n s before u
 unfolding outcome-by
 continued-by net limits n s before u e =
     let h = decided-continued (is-empty (exits net s)) (leb (limits .entries) before) (eqb n 0) (at-or-below u (figure-of (limits .prune))) e in
-    record { has-exits = h .exits; entered = leb-false (limits .entries) before (h .entries); left = pos-of-ne-zero (eqb-false n 0 (h .steps)); level = h .level }
+    record {
+      has-exits = h .exits;
+      entered = leb-false (limits .entries) before (h .entries);
+      left = pos-of-ne-zero (eqb-false n 0 (h .steps));
+      level = h .level;
+    }

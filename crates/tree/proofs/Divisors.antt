@@ -3,7 +3,7 @@
 use Prim.Native.Nat.{ℕ, _+_, _^_, _≤_, _<_}
 use mathlib.Core.Path.{_≡_, refl, ap}
 use mathlib.Core.Bool.{Bool, true, false}
-use mathlib.Core.List.{[], _∷_}
+use mathlib.Core.List.{_∷_}
 use native.Mathlib.Omega.{arith}
 use native.Mathlib.Nat.{one-le-pow}
 use Rattle.figure.specs.Operations.{times-down, of-whole}

@@ -25,7 +25,8 @@ module _ (test : Outcome → Bool) where
   paths-append [] ws = unfold paths in refl
   paths-append (v ∷ vs) ws = go (test (v .outcome)) refl (paths-append vs ws)
     where
-      go : (b : Bool) → test (v .outcome) ≡ b → paths test (vs ++ ws) ≡ paths test vs ++ paths test ws → paths test (v ∷ vs ++ ws) ≡ paths test (v ∷ vs) ++ paths test ws
+      go : (b : Bool) → test (v .outcome) ≡ b → paths test (vs ++ ws) ≡ paths test vs ++ paths test ws
+          → paths test (v ∷ vs ++ ws) ≡ paths test (v ∷ vs) ++ paths test ws
       go true e below = rw (paths-pass v (vs ++ ws) e, paths-pass v vs e, below)
       go false e below = rw (paths-fail v (vs ++ ws) e, paths-fail v vs e, below)
 
@@ -46,7 +47,8 @@ ended-count [] = refl
 ended-count (v ∷ vs) = go (v .path) (v .outcome) (ended-count vs)
   where
     go : (p : Path) (o : Outcome) → length (deaths vs) + length (cuts vs) + length (paths is-continued vs) ≡ length vs
-        → (let ws : List Visit = record { path = p; outcome = o } ∷ vs in length (deaths ws) + length (cuts ws) + length (paths is-continued ws) ≡ suc (length vs))
+        → (let ws : List Visit = record { path = p; outcome = o } ∷ vs in
+        length (deaths ws) + length (cuts ws) + length (paths is-continued ws) ≡ suc (length vs))
     go p death h = omega arith
     go p entered-too-often h = omega arith
     go p step-limit h = omega arith
@@ -65,7 +67,9 @@ pub record InTree (net : Net) (limits : Limits) (test : Outcome → Bool) (p : P
   pub passes : test (outcome net limits p) ≡ true
 
 pub paths-in-tree : (net : Net) (limits : Limits) (test : Outcome → Bool) → Each (InTree net limits test) (paths test (tree net limits))
-paths-in-tree net limits test = paths-each test (InTree net limits test) (tree net limits) (each-monotone (IsVisit net limits) (λ v. test (v .outcome) ≡ true → InTree net limits test (v .path)) one (tree net limits) (tree-sound net limits))
+paths-in-tree net limits test =
+    paths-each test (InTree net limits test) (tree net limits)
+    (each-monotone (IsVisit net limits) (λ v. test (v .outcome) ≡ true → InTree net limits test (v .path)) one (tree net limits) (tree-sound net limits))
   where
     one : (v : Visit) → IsVisit net limits v → test (v .outcome) ≡ true → InTree net limits test (v .path)
     one v h e = record { formed = h .formed; deep = h .deep; passes = ap test (sym (h .decides)) ∙ e }

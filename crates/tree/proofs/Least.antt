@@ -46,7 +46,8 @@ module _ (test : ℕ → Bool) (top : ℕ) (stays : (m n : ℕ) → m ≤ n → 
   unfolding halve
   halve-least zero low high w b = adjacent low high w b
   halve-least (suc fuel) low high w b =
-      go (leb high (low + 1)) (leb→le high (low + 1)) (nleb→lt high (low + 1)) (test ((low + high) / 2)) refl (halve-least fuel low ((low + high) / 2)) (halve-least fuel ((low + high) / 2) high)
+      go (leb high (low + 1)) (leb→le high (low + 1)) (nleb→lt high (low + 1)) (test ((low + high) / 2)) refl
+      (halve-least fuel low ((low + high) / 2)) (halve-least fuel ((low + high) / 2) high)
     where
       mid : ℕ
       mid = (low + high) / 2
@@ -54,7 +55,8 @@ module _ (test : ℕ → Bool) (top : ℕ) (stays : (m n : ℕ) → m ≤ n → 
       go : (c : Bool) → (T c → high ≤ low + 1) → (T (not c) → low + 1 < high) → (d : Bool) → test mid ≡ d
           → (mid ≤ low + 2 ^ fuel → Between low mid → Least test top (halve fuel test low mid))
           → (high ≤ mid + 2 ^ fuel → Between mid high → Least test top (halve fuel test mid high))
-          → Least test top (elim c as (λ _. ℕ) [ true ↦ high | false ↦ elim d as (λ _. ℕ) [ true ↦ halve fuel test low mid | false ↦ halve fuel test mid high ] ])
+          → Least test top
+          (elim c as (λ _. ℕ) [ true ↦ high | false ↦ elim d as (λ _. ℕ) [ true ↦ halve fuel test low mid | false ↦ halve fuel test mid high ] ])
       go true near far d e lower upper = adjacent low high (near tt) b
       go false near far true e lower upper = lower (omega (arith, pow-succ' 2 fuel)) (record {
         apart = omega (arith, far tt);

@@ -24,7 +24,8 @@ module _ {A B : Type 0} (f : A → List B) where
   flatMap-from [] h = absurd (List·Memᴰ·not-nil h)
   flatMap-from {b} (x ∷ xs) h = go (flatMap-from xs) (List·Memᴰ·append-cases (f x) h)
     where
-      go : (List·Memᴰ b (flatMap f xs) → (a : A) × List·Memᴰ a xs × List·Memᴰ b (f a)) → List·Memᴰ b (f x) ⊎ List·Memᴰ b (flatMap f xs) → (a : A) × List·Memᴰ a (x ∷ xs) × List·Memᴰ b (f a)
+      go : (List·Memᴰ b (flatMap f xs) → (a : A) × List·Memᴰ a xs × List·Memᴰ b (f a)) → List·Memᴰ b (f x) ⊎ List·Memᴰ b (flatMap f xs)
+          → (a : A) × List·Memᴰ a (x ∷ xs) × List·Memᴰ b (f a)
       go below (inl k) = (x, List·Memᴰ·head refl, k)
       go below (inr k) = let (a, member, inside) = below k in (a, List·Memᴰ·tail member, inside)
 
@@ -37,7 +38,8 @@ module _ {A B : Type 0} (f : A → List B) where
 pub flatMap-same : {A B : Type 0} (f g : A → List B) (xs : List A) → ((a : A) → List·Memᴰ a xs → f a ≡ g a) → flatMap f xs ≡ flatMap g xs
 unfolding flatMap
 flatMap-same f g [] h = refl
-flatMap-same f g (x ∷ xs) h = ap (λ l. l ++ flatMap f xs) (h x (List·Memᴰ·head refl)) ∙ ap (λ l. g x ++ l) (flatMap-same f g xs (λ a k. h a (List·Memᴰ·tail k)))
+flatMap-same f g (x ∷ xs) h =
+    ap (λ l. l ++ flatMap f xs) (h x (List·Memᴰ·head refl)) ∙ ap (λ l. g x ++ l) (flatMap-same f g xs (λ a k. h a (List·Memᴰ·tail k)))
 
 -- ---- a list where a test holds, else no member
 
@@ -79,16 +81,19 @@ module _ {A : Type 0} where
   in-order-lookup R (x ∷ xs) d h (suc i) (suc j) p q = in-order-lookup R xs d (h .1) i j (le-of-suc-le-suc p) (le-of-suc-le-suc q)
 
 -- an order of the members' lists from an order of the members
-pub in-order-flatMap : {A B : Type 0} (R : A → A → Type 0) (S : B → B → Type 0) (f : A → List B) → ((a : A) → InOrder S (f a)) → ((x y : A) → R x y → Each (λ b. Each (S b) (f y)) (f x)) → (xs : List A) → InOrder R xs → InOrder S (flatMap f xs)
+pub in-order-flatMap : {A B : Type 0} (R : A → A → Type 0) (S : B → B → Type 0) (f : A → List B) → ((a : A) → InOrder S (f a))
+    → ((x y : A) → R x y → Each (λ b. Each (S b) (f y)) (f x)) → (xs : List A) → InOrder R xs → InOrder S (flatMap f xs)
 unfolding InOrder flatMap Each
 in-order-flatMap R S f inner cross [] h = tt
-in-order-flatMap {A} {B} R S f inner cross (x ∷ xs) h = in-order-append S (f x) (flatMap f xs) (inner x) (in-order-flatMap R S f inner cross xs (h .1)) (spread xs (h .0))
+in-order-flatMap {A} {B} R S f inner cross (x ∷ xs) h =
+    in-order-append S (f x) (flatMap f xs) (inner x) (in-order-flatMap R S f inner cross xs (h .1)) (spread xs (h .0))
   where
     spread : (ys : List A) → Each (R x) ys → Each (λ b. Each (S b) (flatMap f ys)) (f x)
     spread [] k = each-of-members (λ b. Each (S b) []) (f x) (λ b m. tt)
     spread (y ∷ ys) k = both (f x) (cross x y (k .0)) (spread ys (k .1))
       where
-        both : (bs : List B) → Each (λ b. Each (S b) (f y)) bs → Each (λ b. Each (S b) (flatMap f ys)) bs → Each (λ b. Each (S b) (f y ++ flatMap f ys)) bs
+        both : (bs : List B) → Each (λ b. Each (S b) (f y)) bs → Each (λ b. Each (S b) (flatMap f ys)) bs
+            → Each (λ b. Each (S b) (f y ++ flatMap f ys)) bs
         both [] p q = tt
         both (b ∷ bs) p q = (each-append (S b) (f y) (flatMap f ys) (p .0) (q .0), both bs (p .1) (q .1))
 
@@ -107,7 +112,8 @@ earlier-in-order {A} xs = go [] xs
     go : (front ys : List A) → InOrder (Earlier (front ++ ys)) ys
     go front [] = tt
     go front (y ∷ ys) =
-        let here : Each (Earlier (front ++ y ∷ ys) y) ys = each-of-members (Earlier (front ++ y ∷ ys) y) ys (λ z m. record { front = front; back = ys; split = refl; later = m }) in
+        let here : Each (Earlier (front ++ y ∷ ys) y) ys =
+        each-of-members (Earlier (front ++ y ∷ ys) y) ys (λ z m. record { front = front; back = ys; split = refl; later = m }) in
         let rest : InOrder (Earlier ((front ++ (y ∷ [])) ++ ys)) ys = go (front ++ (y ∷ [])) ys in
         (here, rw (append-snoc front y ys) at rest)
 
@@ -116,5 +122,6 @@ earlier-in-order {A} xs = go [] xs
 pub same-end : {A : Type 0} (r s : List A) (x y : A) (b : List A) → r ++ x ∷ b ≡ s ++ y ∷ b → x ≡ y
 same-end r s x y b e =
     let same : length r ≡ length s = omega (arith, ap length e, length-append r (x ∷ b), length-append s (y ∷ b)) in
-    let ends : x ∷ b ≡ y ∷ b = sym (drop-append-seam r (x ∷ b)) ∙ ap (drop (length r)) e ∙ ap (λ n. drop n (s ++ y ∷ b)) same ∙ drop-append-seam s (y ∷ b) in
+    let ends : x ∷ b ≡ y ∷ b =
+    sym (drop-append-seam r (x ∷ b)) ∙ ap (drop (length r)) e ∙ ap (λ n. drop n (s ++ y ∷ b)) same ∙ drop-append-seam s (y ∷ b) in
     ap (λ l. getD l 0 x) ends

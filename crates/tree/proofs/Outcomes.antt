@@ -18,12 +18,17 @@ unfoldable pub decided : (no-exits too-often at-limit low : Bool) → Outcome
 decided no-exits too-often at-limit low =
     elim no-exits [
       | true ↦ death
-      | false ↦ elim too-often [ true ↦ entered-too-often | false ↦ elim at-limit [ true ↦ step-limit | false ↦ elim low [ true ↦ low-level | false ↦ continued ] ] ]
+      | false ↦
+          elim too-often [
+            | true ↦ entered-too-often
+            | false ↦ elim at-limit [ true ↦ step-limit | false ↦ elim low [ true ↦ low-level | false ↦ continued ] ]
+          ]
     ]
 
 pub outcome-decided : (net : Net) (limits : Limits) (p : Path)
     → outcome net limits p
-    ≡ decided (is-empty (exits net (last-state net p))) (ltb (limits .entries) (entries net (last-state net p) p)) (eqb (length p) (limits .steps)) (at-or-below (upper net p) (figure-of (limits .prune)))
+    ≡ decided (is-empty (exits net (last-state net p))) (ltb (limits .entries) (entries net (last-state net p) p))
+    (eqb (length p) (limits .steps)) (at-or-below (upper net p) (figure-of (limits .prune)))
 unfolding outcome decided
 outcome-decided net limits p = refl
 

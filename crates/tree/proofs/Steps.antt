@@ -68,7 +68,8 @@ module _ (net : Net) (x : Transition) (p : Path) where
   unfolding grain-sum
   grain-sum-more g = refl
 
-  pub lower-product-more : (g : Transition → ℕ) (t : Figure) → lower-product net g t (x ∷ p) ≡ lower-step net t (class net x) (class1-count net (x ∷ p)) (g x) x (lower-product net g t p)
+  pub lower-product-more : (g : Transition → ℕ) (t : Figure)
+      → lower-product net g t (x ∷ p) ≡ lower-step net t (class net x) (class1-count net (x ∷ p)) (g x) x (lower-product net g t p)
   unfolding lower-product
   lower-product-more g t = refl
 
@@ -101,6 +102,7 @@ unfolding lower-with
 lower-full net g p h = rw (le-leb 1000000 (grain-sum net g p) h, lower-with)
 
 pub lower-else : (net : Net) (g : Transition → ℕ) (p : Path) → grain-sum net g p < 1000000
-    → lower-with net g p ≡ times-down (lower-product net g (down 9 (remaining-time net (grain-sum net g p))) p) (last-factor net (grain-sum net g p) p)
+    → lower-with net g p
+    ≡ times-down (lower-product net g (down 9 (remaining-time net (grain-sum net g p))) p) (last-factor net (grain-sum net g p) p)
 unfolding lower-with
 lower-else net g p h = rw (lt-leb 1000000 (grain-sum net g p) h, lower-with)
