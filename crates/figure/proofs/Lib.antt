@@ -11,3 +11,14 @@ pub mod Exact
 pub mod Reach
 pub mod Sized
 pub mod Gathered
+pub mod Stored
+pub mod Parts
+pub mod Rounded
+pub mod Figures
+pub mod Products
+pub mod Sums
+pub mod Quotients
+pub mod Wholes
+pub mod Totals
+pub mod Orders
+pub mod Differences

@@ -1,3 +1,4 @@
 pub mod Rounding
 pub mod Operations
 pub mod Operands
+pub mod Steps

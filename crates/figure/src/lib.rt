@@ -1,5 +1,177 @@
-// Figures: nine digits and a power of ten. Totals have the same form with eighteen digits.
+// Figures: nine digits and a power of ten, every operation rounded once. Totals have the same form with eighteen digits.
+ghost use mathlib.Core.Path.{_≡_};
+ghost use Prim.Native.Nat.{_≤_, _<_};
+ghost use lib.Signed.{mag};
+ghost use Rattle.figure.specs.Rounding.{none, IsFigure};
+ghost use Rattle.figure.specs.Operands.{Operand};
+ghost use Rattle.figure.specs.Operations as ops;
+
+mod difference;
+mod division;
+mod powers;
+mod product;
+mod quotient;
+mod sum;
+mod total;
+mod whole;
+
 pub struct Figure {
     pub digits: u64,
     pub power: i32,
+}
+
+impl Figure {
+    pub fn zero() -> Figure
+        ensures { λ r. ⌜ r ≡ none ⌝ }
+    {
+        Figure {
+            digits: 0,
+            power: 0,
+        }
+    }
+
+    // The whole number n, rounded down; exact up to nine digits.
+    pub fn of_whole(n: u64) -> Figure
+        ensures { λ r. ⌜ r ≡ ops.of-whole n ⌝ }
+    {
+        whole::fitted(false, n, 0)
+    }
+
+    // The quantity c / 10^p of a word table, exactly.
+    pub fn of_quantity(c: u32, p: u32) -> Figure
+        requires { ⌜ (c < 1000000) × (p ≤ 255) ⌝ }
+        ensures { λ r. ⌜ r ≡ ops.of-quantity c p ⌝ }
+    {
+        whole::fitted(true, whole::wide(c), powers::below_zero(p))
+    }
+
+    pub fn times_up(self, other: Figure) -> Figure
+        requires { ⌜ Operand 9 self × Operand 9 other ⌝ }
+        ensures { λ r. ⌜ r ≡ ops.times-up self other ⌝ }
+    {
+        product::times(true, self, other)
+    }
+
+    pub fn times_down(self, other: Figure) -> Figure
+        requires { ⌜ Operand 9 self × Operand 9 other ⌝ }
+        ensures { λ r. ⌜ r ≡ ops.times-down self other ⌝ }
+    {
+        product::times(false, self, other)
+    }
+
+    pub fn plus_up(self, other: Figure) -> Figure
+        requires { ⌜ Operand 9 self × Operand 9 other ⌝ }
+        ensures { λ r. ⌜ r ≡ ops.plus-up self other ⌝ }
+    {
+        sum::plus(true, 9, self, other)
+    }
+
+    pub fn plus_down(self, other: Figure) -> Figure
+        requires { ⌜ Operand 9 self × Operand 9 other ⌝ }
+        ensures { λ r. ⌜ r ≡ ops.plus-down self other ⌝ }
+    {
+        sum::plus(false, 9, self, other)
+    }
+
+    pub fn minus_up(self, other: Figure) -> Figure
+        requires { ⌜ Operand 9 self × Operand 9 other ⌝ }
+        ensures { λ r. ⌜ r ≡ ops.minus-up self other ⌝ }
+    {
+        difference::minus(true, self, other)
+    }
+
+    pub fn minus_down(self, other: Figure) -> Figure
+        requires { ⌜ Operand 9 self × Operand 9 other ⌝ }
+        ensures { λ r. ⌜ r ≡ ops.minus-down self other ⌝ }
+    {
+        difference::minus(false, self, other)
+    }
+
+    pub fn divided_up(self, other: Figure) -> Figure
+        requires { ⌜ Operand 9 self × Operand 9 other × (0 < other .digits) ⌝ }
+        ensures { λ r. ⌜ r ≡ ops.divided-up self other ⌝ }
+    {
+        quotient::divided(true, self, other)
+    }
+
+    pub fn divided_down(self, other: Figure) -> Figure
+        requires { ⌜ Operand 9 self × Operand 9 other × (0 < other .digits) ⌝ }
+        ensures { λ r. ⌜ r ≡ ops.divided-down self other ⌝ }
+    {
+        quotient::divided(false, self, other)
+    }
+
+    // Times ten to the power p, exactly.
+    pub fn times_ten(self, p: i32) -> Figure
+        requires { ⌜ Operand 9 self × (mag p ≤ 100000) ⌝ }
+        ensures { λ r. ⌜ r ≡ ops.times-ten self p ⌝ }
+    {
+        if self.digits == 0 {
+            return self;
+        }
+        let digits = self.digits;
+        let power = powers::sum(self.power, p);
+        Figure { digits, power }
+    }
+
+    pub fn at_or_below(self, other: Figure) -> bool
+        requires { ⌜ IsFigure 9 self × IsFigure 9 other ⌝ }
+        ensures { λ r. ⌜ r ≡ ops.at-or-below self other ⌝ }
+    {
+        if self.digits == 0 {
+            return true;
+        }
+        if other.digits == 0 {
+            return false;
+        }
+        if self.power == other.power {
+            return self.digits <= other.digits;
+        }
+        self.power <= other.power
+    }
+
+    // A total of eighteen digits, with a figure of nine added.
+    pub fn total_up(self, a: Figure) -> Figure
+        requires { ⌜ Operand 18 self × Operand 9 a ⌝ }
+        ensures { λ r. ⌜ r ≡ ops.total-up self a ⌝ }
+    {
+        sum::plus(true, 18, self, total::widened(a))
+    }
+
+    pub fn total_down(self, a: Figure) -> Figure
+        requires { ⌜ Operand 18 self × Operand 9 a ⌝ }
+        ensures { λ r. ⌜ r ≡ ops.total-down self a ⌝ }
+    {
+        sum::plus(false, 18, self, total::widened(a))
+    }
+
+    // A total, to nine digits.
+    pub fn to_nine_up(self) -> Figure
+        requires { ⌜ Operand 18 self ⌝ }
+        ensures { λ r. ⌜ r ≡ ops.to-nine-up self ⌝ }
+    {
+        total::to_nine(true, self)
+    }
+
+    pub fn to_nine_down(self) -> Figure
+        requires { ⌜ Operand 18 self ⌝ }
+        ensures { λ r. ⌜ r ≡ ops.to-nine-down self ⌝ }
+    {
+        total::to_nine(false, self)
+    }
+
+    // The sum of two totals, to nine digits.
+    pub fn sum_to_nine_up(self, other: Figure) -> Figure
+        requires { ⌜ Operand 18 self × Operand 18 other ⌝ }
+        ensures { λ r. ⌜ r ≡ ops.sum-to-nine-up self other ⌝ }
+    {
+        total::sum_to_nine(true, self, other)
+    }
+
+    pub fn sum_to_nine_down(self, other: Figure) -> Figure
+        requires { ⌜ Operand 18 self × Operand 18 other ⌝ }
+        ensures { λ r. ⌜ r ≡ ops.sum-to-nine-down self other ⌝ }
+    {
+        total::sum_to_nine(false, self, other)
+    }
 }

@@ -1,0 +1,74 @@
+// Powers of ten, and sums and differences of the powers of figures.
+ghost use mathlib.Core.Path.{_≡_};
+ghost use Prim.Native.Nat.{_^_, _≤_, _<_};
+ghost use lib.IntN.{pos, negℤ, _+ℤ_, _-ℤ_};
+ghost use lib.Signed.{mag, _≤ℤ_};
+
+const TENS: [u64; 20] = [
+    1,
+    10,
+    100,
+    1_000,
+    10_000,
+    100_000,
+    1_000_000,
+    10_000_000,
+    100_000_000,
+    1_000_000_000,
+    10_000_000_000,
+    100_000_000_000,
+    1_000_000_000_000,
+    10_000_000_000_000,
+    100_000_000_000_000,
+    1_000_000_000_000_000,
+    10_000_000_000_000_000,
+    100_000_000_000_000_000,
+    1_000_000_000_000_000_000,
+    10_000_000_000_000_000_000,
+];
+
+// Ten to the power k.
+pub(crate) fn ten_to(k: usize) -> u64
+    requires { ⌜ k < 20 ⌝ }
+    ensures { λ r. ⌜ r ≡ 10 ^ k ⌝ }
+{
+    TENS[k]
+}
+
+pub(crate) fn sum(p: i32, q: i32) -> i32
+    requires { ⌜ (mag p ≤ 1000000000) × (mag q ≤ 1000000000) ⌝ }
+    ensures { λ r. ⌜ r ≡ p +ℤ q ⌝ }
+{
+    p + q
+}
+
+pub(crate) fn difference(p: i32, q: i32) -> i32
+    requires { ⌜ (mag p ≤ 1000000000) × (mag q ≤ 1000000000) ⌝ }
+    ensures { λ r. ⌜ r ≡ p -ℤ q ⌝ }
+{
+    p - q
+}
+
+// How far the power p stands above q.
+pub(crate) fn gap(p: i32, q: i32) -> usize
+    requires { ⌜ (mag p ≤ 1000000000) × (mag q ≤ 1000000000) × (q ≤ℤ p) ⌝ }
+    ensures { λ r. ⌜ pos r ≡ p -ℤ q ⌝ }
+{
+    (p - q) as usize
+}
+
+// A small number of digits as a power.
+pub(crate) fn above_zero(k: usize) -> i32
+    requires { ⌜ k ≤ 1000 ⌝ }
+    ensures { λ r. ⌜ r ≡ pos k ⌝ }
+{
+    k as i32
+}
+
+// The same, below zero.
+pub(crate) fn below_zero(k: u32) -> i32
+    requires { ⌜ k ≤ 1000 ⌝ }
+    ensures { λ r. ⌜ r ≡ negℤ (pos k) ⌝ }
+{
+    0 - (k as i32)
+}
