@@ -12,3 +12,4 @@ pub mod Tally
 pub mod Answer
 pub mod Divisors
 pub mod Ranges
+pub mod RemainingTime
