@@ -109,7 +109,8 @@ module _ (U L : Path → Fraction) (upper lower : Path → Figure) (m n : ℕ) (
 
 -- the report of any list of death paths and any list of cut paths, by the rounded bounds of document 01
 pub report-accurate : (net : Net) (ds cs : List Path) (steps : ℕ)
-    → AccurateSums (exact-upper net) (exact-lower net) ds cs (sum-to-nine-up (total-of-uppers (upper net) ds) (total-of-uppers (upper net) cs)) (to-nine-down (total-of-lowers (lower net) ds))
+    → AccurateSums (exact-upper net) (exact-lower net) ds cs
+    (sum-to-nine-up (total-of-uppers (upper net) ds) (total-of-uppers (upper net) cs)) (to-nine-down (total-of-lowers (lower net) ds))
     → Accurate net ds cs (report-of net ds cs steps)
 unfolding report-of upper-total lower-total exact-upper-sum exact-lower-sum death-upper-sum
 report-accurate net ds cs steps a = record { upper-from = a .upper-from; upper-to = a .upper-to; lower-from = a .lower-from; lower-to = a .lower-to }

@@ -6,7 +6,7 @@ use Prim.Native.Nat.{ℕ, _+_, _^_, _<_}
 use native.Mathlib.Omega.{arith, patom, plit}
 use lib.Dec.{T, leb, nleb→lt}
 use Rattle.fraction.specs.Fraction.{Fraction, whole, _+ᶠ_, _-ᶠ_, _*ᶠ_, _/ᶠ_}
-use Rattle.fraction.proofs.Ratio.{Ratio, _≈_, ofℕ, _⊕_, _⊗_, _⊖_, ≈-refl, ≈-trans, ⊕-cong, ⊗-cong, ⊕-comm, ⊕-zero}
+use Rattle.fraction.proofs.Ratio.{Ratio, _≈_, ofℕ, _⊕_, _⊗_, _⊖_, ≈-refl, ≈-sym, ≈-trans, ⊕-cong, ⊗-cong, ⊗-assoc, ⊕-comm, ⊕-zero}
 use Rattle.fraction.proofs.Certificate.{_*'_, same-value}
 use Rattle.fraction.proofs.Inverse.{inv, inv-cong, inv-⊗, inv-inv}
 use Rattle.fraction.proofs.Powers.{pow, pow-⊗, pow-inv, pow-ofℕ}
@@ -41,14 +41,12 @@ inv-part z c = ≈-trans (inv-⊗ z (inv c)) (⊗-cong (≈-refl _) (inv-inv c))
 
 by-time : (net : Net) (n : ℕ) (x : Ratio) → x ⊗ inv (grain-timeᴺ net n) ≈ x ⊗ inv (ofℕ n ⊗ timeᴺ net) ⊗ ofℕ (10 ^ 6)
 unfolding grain-timeᴺ
-by-time net n x = ≈-trans (⊗-cong (≈-refl x) (inv-part (ofℕ n ⊗ timeᴺ net) (ofℕ 1000000))) (regroup x _ _)
-  where
-    regroup : (x y z : Ratio) → x ⊗ (y ⊗ z) ≈ x ⊗ y ⊗ z
-    regroup x y z = same-value (x ∷ y ∷ z ∷ []) (patom 0 *' (patom 1 *' patom 2)) (patom 0 *' patom 1 *' patom 2) tt tt
+by-time net n x = ≈-trans (⊗-cong (≈-refl x) (inv-part (ofℕ n ⊗ timeᴺ net) (ofℕ 1000000))) (≈-sym (⊗-assoc x _ _))
 
-by-square : (net : Net) (n : ℕ) (x : Ratio) → x ⊗ inv (pow (grain-timeᴺ net n) 2) ≈ x ⊗ inv (ofℕ (n ^ 2) ⊗ (timeᴺ net ⊗ timeᴺ net)) ⊗ ofℕ (10 ^ 12)
+by-square : (net : Net) (n : ℕ) (x : Ratio)
+    → x ⊗ inv (pow (grain-timeᴺ net n) 2) ≈ x ⊗ inv (ofℕ (n ^ 2) ⊗ (timeᴺ net ⊗ timeᴺ net)) ⊗ ofℕ (10 ^ 12)
 unfolding grain-timeᴺ
-by-square net n x = ≈-trans (⊗-cong (≈-refl x) inside) (same-value (x ∷ inv (ofℕ (n ^ 2) ⊗ (timeᴺ net ⊗ timeᴺ net)) ∷ ofℕ (10 ^ 12) ∷ []) (patom 0 *' (patom 1 *' patom 2)) (patom 0 *' patom 1 *' patom 2) tt tt)
+by-square net n x = ≈-trans (⊗-cong (≈-refl x) inside) (≈-sym (⊗-assoc x _ _))
   where
     c : Ratio
     c = ofℕ 1000000
@@ -72,7 +70,8 @@ class2-valueᴺ net s (fast m d q) n = exactᴺ q ⊗ (ofℕ 1 ⊖ class2-loss�
 unfoldable pub class3-valueᴺ : Net → ℕ → Manner → ℕ → Ratio
 class3-valueᴺ net s x n = shareᴺ x ⊗ (meanᴺ net s ⊖ class3-lossᴺ net s n)
 
-class2-clips : (net : Net) (s : ℕ) (x : Manner) (n : ℕ) → class2-exact-factor (exact-rate-sum net s) (grain-time net n) x clips-to class2-valueᴺ net s x n
+class2-clips : (net : Net) (s : ℕ) (x : Manner) (n : ℕ)
+    → class2-exact-factor (exact-rate-sum net s) (grain-time net n) x clips-to class2-valueᴺ net s x n
 unfolding class2-exact-factor class2-valueᴺ class2-lossᴺ
 class2-clips net s (slow r) n = is-clip (is-whole 0)
 class2-clips net s (fast m d q) n = clip-product (exact-is q)
@@ -84,7 +83,8 @@ class3-clips : (net : Net) (s : ℕ) (x : Manner) (n : ℕ)
 unfolding class3-exact-factor class3-valueᴺ class3-lossᴺ
 class3-clips net s x n = clip-product (share-is x)
     (clip-≈ (⊖-cong (≈-refl _) (⊕-cong (≈-refl _) (by-time net n (moment-sumᴺ net s))))
-    (clip-twice (mean-is net s) (is-quotient (is-product (rate-sum-is net s) (moment-sum-is net s)) (is-whole 2)) (is-quotient (moment-sum-is net s) (grain-time-is net n))))
+    (clip-twice (mean-is net s) (is-quotient (is-product (rate-sum-is net s) (moment-sum-is net s)) (is-whole 2))
+    (is-quotient (moment-sum-is net s) (grain-time-is net n))))
 
 abbrev pub lower-valueᴺ : Net → (Transition → ℕ) → Class → Transition → Ratio
 lower-valueᴺ net g class1 x = ofℕ 1
@@ -97,7 +97,8 @@ factors-clip net g [] = ≈-refl _
 factors-clip net g (x ∷ p) = go (class net x) (factors-clip net g p)
   where
     go : (c : Class) → clipped (lower-factors net g p) ≈ factorsᴺ net (lower-valueᴺ net g) p
-        → clipped (lower-factor net c (g x) x ++ lower-factors net g p) ≈ beside-class1 c (lower-valueᴺ net g c x) ⊗ factorsᴺ net (lower-valueᴺ net g) p
+        → clipped (lower-factor net c (g x) x ++ lower-factors net g p)
+        ≈ beside-class1 c (lower-valueᴺ net g c x) ⊗ factorsᴺ net (lower-valueᴺ net g) p
     go class1 h = ≈-trans h (one-times _)
     go class2 h = ⊗-cong (class2-clips net (x .from) (x .manner) (g x) .clip) h
     go class3 h = ⊗-cong (class3-clips net (x .from) (x .manner) (g x) .clip) h
@@ -137,10 +138,13 @@ lowerᴺ net g p =
 all-clip : (net : Net) (g : Transition → ℕ) {x : Fraction} {t : Ratio} (p : Path) → x is t
     → clipped (all-factors net g x p) ≈ steppedᴺ net t (lower-valueᴺ net g) p ⊗ last-valueᴺ net t p
 unfolding clipped all-factors last-valueᴺ
-all-clip net g {x} {t} p h = ≈-trans (⊗-cong (is-clip first .clip) (⊗-cong (last .clip) (factors-clip net g p)))
-    (≈-trans (same-value (ratesᴺ net p ⊗ over-factorialᴺ t (class1-count net p) ∷ taken ∷ factorsᴺ net (lower-valueᴺ net g) p ∷ []) (patom 0 *' (patom 1 *' patom 2)) (patom 0 *' patom 2 *' patom 1) tt tt)
-    (⊗-cong (unfold closedᴺ in closed-stepped net t (lower-valueᴺ net g) p) (≈-refl _)))
+all-clip net g {x} {t} p h =
+    ≈-trans (⊗-cong (is-clip first .clip) (⊗-cong (last .clip) (factors-clip net g p)))
+    (≈-trans (swap _ _ _) (⊗-cong (unfold closedᴺ in closed-stepped net t (lower-valueᴺ net g) p) (≈-refl _)))
   where
+    swap : (a b c : Ratio) → a ⊗ (b ⊗ c) ≈ a ⊗ c ⊗ b
+    swap a b c = same-value (a ∷ b ∷ c ∷ []) (patom 0 *' (patom 1 *' patom 2)) (patom 0 *' patom 2 *' patom 1) tt tt
+
     taken : Ratio
     taken = ofℕ 1 ⊖ t ⊗ path-rate-sumᴺ net p ⊗ inv (ofℕ (class1-count net p + 1))
 
@@ -163,8 +167,11 @@ exact-lower-is net g p = go (leb 1000000 (grain-sum net g p)) (nleb→lt 1000000
     factors : List Fraction
     factors = all-factors net g (time-left net g p) p
 
+    guarded : Fraction
+    guarded = elim (any not-positive factors) [ true ↦ whole 0 | false ↦ product factors ]
+
     go : (b : Bool) → (T (not b) → n < 1000000)
-        → (elim b as (λ _. Fraction) [ true ↦ whole 0 | false ↦ elim (any not-positive factors) as (λ _. Fraction) [ true ↦ whole 0 | false ↦ product factors ] ])
+        → (elim b as (λ _. Fraction) [ true ↦ whole 0 | false ↦ guarded ])
         is (elim b as (λ _. Ratio) [ true ↦ ofℕ 0 | false ↦ steppedᴺ net t (lower-valueᴺ net g) p ⊗ last-valueᴺ net t p ])
     go true h = is-whole 0
     go false h = is-≈ (all-clip net g p (remaining-time-is net n (omega (arith, h tt)))) (guarded-is factors)

@@ -88,7 +88,8 @@ unfoldable pub steppedᴺ : Net → Ratio → (Class → Transition → Ratio) �
 steppedᴺ net t f [] = ofℕ 1
 steppedᴺ net t f (x ∷ p) = stepᴺ t f (class net x) (class1-count net (x ∷ p)) x (steppedᴺ net t f p)
 
-step-cong : (t : Ratio) (f : Class → Transition → Ratio) (c : Class) (k : ℕ) (x : Transition) {u v : Ratio} → u ≈ v → stepᴺ t f c k x u ≈ stepᴺ t f c k x v
+step-cong : (t : Ratio) (f : Class → Transition → Ratio) (c : Class) (k : ℕ) (x : Transition) {u v : Ratio} → u ≈ v
+    → stepᴺ t f c k x u ≈ stepᴺ t f c k x v
 step-cong t f class1 k x e = ⊗-cong (⊗-cong (⊗-cong e (≈-refl _)) (≈-refl _)) (≈-refl _)
 step-cong t f class2 k x e = ⊗-cong e (≈-refl _)
 step-cong t f class3 k x e = ⊗-cong e (≈-refl _)
@@ -96,7 +97,8 @@ step-cong t f class3 k x e = ⊗-cong e (≈-refl _)
 -- the closed form with one more step
 beside : (t y : Ratio) (k : ℕ) (r w : Ratio) → ofℕ 1 ⊗ r ⊗ over-factorialᴺ t (0 + k) ⊗ (y ⊗ w) ≈ r ⊗ over-factorialᴺ t k ⊗ w ⊗ y
 beside t y k r w = let e : 0 + k ≡ k = omega arith in
-    rw e (same-value (y ∷ r ∷ over-factorialᴺ t k ∷ w ∷ []) (plit 1 *' patom 1 *' patom 2 *' (patom 0 *' patom 3)) (patom 1 *' patom 2 *' patom 3 *' patom 0) tt tt)
+    rw e (same-value (y ∷ r ∷ over-factorialᴺ t k ∷ w ∷ [])
+    (plit 1 *' patom 1 *' patom 2 *' (patom 0 *' patom 3)) (patom 1 *' patom 2 *' patom 3 *' patom 0) tt tt)
 
 closed-step : (t : Ratio) (f : Class → Transition → Ratio) (c : Class) (x : Transition) (k : ℕ) (r w : Ratio)
     → rateᴺ c (x .manner) ⊗ r ⊗ over-factorialᴺ t (counts-1 c + k) ⊗ (beside-class1 c (f c x) ⊗ w)
@@ -104,13 +106,16 @@ closed-step : (t : Ratio) (f : Class → Transition → Ratio) (c : Class) (x : 
 closed-step t f class1 x k r w = let e : 1 + k ≡ suc k = omega arith in
     rw e (≈-trans (⊗-cong (⊗-cong (≈-refl _) (over-factorial-suc t k)) (≈-refl _))
     (same-value (shareᴺ (x .manner) ∷ r ∷ over-factorialᴺ t k ∷ t ∷ inv (ofℕ (suc k)) ∷ w ∷ [])
-    (patom 0 *' patom 1 *' (patom 2 *' patom 3 *' patom 4) *' (plit 1 *' patom 5)) (patom 1 *' patom 2 *' patom 5 *' patom 0 *' patom 3 *' patom 4) tt tt))
+    (patom 0 *' patom 1 *' (patom 2 *' patom 3 *' patom 4) *' (plit 1 *' patom 5))
+    (patom 1 *' patom 2 *' patom 5 *' patom 0 *' patom 3 *' patom 4) tt tt))
 closed-step t f class2 x k r w = beside t (f class2 x) k r w
 closed-step t f class3 x k r w = beside t (f class3 x) k r w
 
 pub closed-stepped : (net : Net) (t : Ratio) (f : Class → Transition → Ratio) (p : Path) → closedᴺ net t f p ≈ steppedᴺ net t f p
 unfolding closedᴺ steppedᴺ ratesᴺ factorsᴺ class1-count
-closed-stepped net t f [] = ≈-trans (⊗-cong (⊗-cong (≈-refl _) (over-factorial-zero t)) (≈-refl _)) (same-value [] (plit 1 *' plit 1 *' plit 1) (plit 1) tt tt)
+closed-stepped net t f [] =
+    ≈-trans (⊗-cong (⊗-cong (≈-refl _) (over-factorial-zero t)) (≈-refl _))
+    (same-value [] (plit 1 *' plit 1 *' plit 1) (plit 1) tt tt)
 closed-stepped net t f (x ∷ p) =
     ≈-trans (closed-step t f (class net x) x (class1-count net p) (ratesᴺ net p) (factorsᴺ net f p))
     (step-cong t f (class net x) (counts-1 (class net x) + class1-count net p) x (closed-stepped net t f p))

@@ -8,7 +8,7 @@ use Prim.Native.Nat.{ℕ, zero, suc, _*_}
 use native.Mathlib.Nat.{mul-pos}
 use native.Mathlib.Omega.{arith}
 use lib.IntN.{ℤ, pos, negsuc, negℤ, _*ℤ_}
-use Rattle.fraction.specs.Fraction.{Fraction, _≤ᶠ_, _≈ᶠ_, whole, _+ᶠ_, _-ᶠ_, _*ᶠ_, _/ᶠ_, _^ᶠ_}
+use Rattle.fraction.specs.Fraction.{Fraction, _≈ᶠ_, whole, _+ᶠ_, _-ᶠ_, _*ᶠ_, _/ᶠ_, _^ᶠ_}
 use Rattle.fraction.proofs.Integers.{natural}
 use Rattle.fraction.proofs.Ratio.{Ratio, _≈_, ofℕ, _⊕_, _⊗_, _⊖_, ≈-refl, ≈-sym, ≈-trans, ≈-le, ≈-ge, ≼-antisym, ⊕-cong, ⊗-cong, ⊖-mono, num-zero}
 use Rattle.fraction.proofs.Inverse.{inv, inv-cong}

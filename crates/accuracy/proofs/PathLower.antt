@@ -71,7 +71,8 @@ module _ {m : Model} (valid : Valid m) where
       → Near 18 (class2-loss net s mean deviation n) (class2-lossᴺ net s mean deviation n)
   unfolding class2-loss class2-lossᴺ
   class2-loss-near s mean deviation n h v w =
-      near-≤ 18 (omega arith) (near-plus (near-times (rate-sum-near valid s) (quantity-near v)) (near-ten 12 (near-divided positive (moment-near v w) divisor)))
+      near-≤ 18 (omega arith) (near-plus (near-times (rate-sum-near valid s) (quantity-near v))
+      (near-ten 12 (near-divided positive (moment-near v w) divisor)))
     where
       positive : 0 < (ofℕ (n ^ 2) ⊗ (timeᴺ net ⊗ timeᴺ net)) .num
       positive = ⊗-pos _ _ (ofℕ-pos (one-le-pow 2 n h)) (⊗-pos _ _ time-pos time-pos)
@@ -99,18 +100,23 @@ module _ {m : Model} (valid : Valid m) where
   class2-short s (fast mean deviation q) n h v = short-≈ (≈-refl _) (times-one _)
       (short-times (short-exact (figure-is (v .1 .1))) (short-minus (omega arith) short-one (class2-loss-near s mean deviation n h (v .0) (v .1 .0))))
 
-  class3-short : (s : ℕ) (x : Manner) (n : ℕ) → 1 ≤ n → ValidManner x → Short 59 (class3-factor net s x n) (class3-valueᴺ net s x n) (shareᴺ x ⊗ meanᴺ net s)
+  class3-short : (s : ℕ) (x : Manner) (n : ℕ) → 1 ≤ n → ValidManner x
+      → Short 59 (class3-factor net s x n) (class3-valueᴺ net s x n) (shareᴺ x ⊗ meanᴺ net s)
   unfolding class3-factor class3-valueᴺ
-  class3-short s x n h v = short-times (short-exact (share-figure-is x v)) (short-minus (omega arith) (short-under (omega arith) (mean-under valid s)) (class3-loss-near s n h))
+  class3-short s x n h v = short-times (short-exact (share-figure-is x v))
+      (short-minus (omega arith) (short-under (omega arith) (mean-under valid s)) (class3-loss-near s n h))
 
   -- ---- the steps
 
   module _ (g : Transition → ℕ) (t̂ : Figure) (t : Ratio) (short-t : Short 1 t̂ t (timeᴺ net)) where
-    lower-step-short : (c : Class) (k n : ℕ) (x : Transition) (l : Figure) (y u : Ratio) → suc k < 10 ^ 9 → ValidManner (x .manner) → Grained c (g x) → Short n l y u
-        → Short (n + 60) (lower-step net t̂ c (counts-1 c + k) (g x) x l) (stepᴺ t (lower-valueᴺ net g) c (counts-1 c + k) x y) (stepᴺ (timeᴺ net) (upper-valueᴺ net) c (counts-1 c + k) x u)
+    lower-step-short : (c : Class) (k n : ℕ) (x : Transition) (l : Figure) (y u : Ratio)
+        → suc k < 10 ^ 9 → ValidManner (x .manner) → Grained c (g x) → Short n l y u
+        → Short (n + 60) (lower-step net t̂ c (counts-1 c + k) (g x) x l)
+        (stepᴺ t (lower-valueᴺ net g) c (counts-1 c + k) x y) (stepᴺ (timeᴺ net) (upper-valueᴺ net) c (counts-1 c + k) x u)
     unfolding lower-step
     lower-step-short class1 k n x l y u b v w p = let e : 1 + k ≡ suc k = omega arith in
-        rw e (short-≤ (n + 60) (omega arith) (short-by-whole (suc k) b (short-times (short-times p (short-exact (share-figure-is (x .manner) v))) short-t)))
+        rw e (short-≤ (n + 60) (omega arith) (short-by-whole (suc k) b
+        (short-times (short-times p (short-exact (share-figure-is (x .manner) v))) short-t)))
     lower-step-short class2 k n x l y u b v w p = short-≤ (n + 60) (omega arith) (short-times p (class2-short (x .from) (x .manner) (g x) w v))
     lower-step-short class3 k n x l y u b v w p = short-≤ (n + 60) (omega arith) (short-times p (class3-short (x .from) (x .manner) (g x) w v))
 
@@ -130,23 +136,28 @@ module _ {m : Model} (valid : Valid m) where
   path-rate-sum-near (x ∷ p) = go (class net x) (path-rate-sum-near p)
     where
       go : (c : Class) → Near (16 + length p) (path-rate-sum net p) (path-rate-sumᴺ net p)
-          → Near (16 + suc (length p)) (add-rates c (path-rate-sum net p) (rate-sum net (x .from))) (add-ratesᴺ c (path-rate-sumᴺ net p) (rate-sumᴺ net (x .from)))
+          → Near (16 + suc (length p)) (add-rates c (path-rate-sum net p) (rate-sum net (x .from)))
+          (add-ratesᴺ c (path-rate-sumᴺ net p) (rate-sumᴺ net (x .from)))
       go class1 h = near-≤ (16 + suc (length p)) (omega arith) (near-add (omega arith) h (rate-sum-near valid (x .from)))
       go class2 h = near-≤ (16 + suc (length p)) (omega arith) h
       go class3 h = near-≤ (16 + suc (length p)) (omega arith) h
 
-  last-short : (n : ℕ) (p : Path) → n ≤ 1000000 → length p ≤ 24 → Short 45 (last-factor net n p) (last-valueᴺ net (remaining-timeᴺ net n) p) (ofℕ 1)
+  last-short : (n : ℕ) (p : Path) → n ≤ 1000000 → length p ≤ 24
+      → Short 45 (last-factor net n p) (last-valueᴺ net (remaining-timeᴺ net n) p) (ofℕ 1)
   unfolding last-factor last-valueᴺ
   last-short n p h l = short-minus (omega arith) short-one (near-≤ 43 (omega arith) divided)
     where
-      divided : Near (1 + (16 + length p) + 1 + 1) (divided-up (times-up (up 9 (remaining-time net n)) (path-rate-sum net p)) (of-whole (class1-count net p + 1)))
+      divided : Near (1 + (16 + length p) + 1 + 1)
+          (divided-up (times-up (up 9 (remaining-time net n)) (path-rate-sum net p)) (of-whole (class1-count net p + 1)))
           (remaining-timeᴺ net n ⊗ path-rate-sumᴺ net p ⊗ inv (ofℕ (class1-count net p + 1)))
       divided = let e : class1-count net p + 1 ≡ suc (class1-count net p) = omega arith in
-          rw e (near-by-whole (class1-count net p) (short-count (length p) _ (count-≤ net p) l) (near-times (up-is-near (remaining-time-is net n h)) (path-rate-sum-near p)))
+          rw e (near-by-whole (class1-count net p) (short-count (length p) _ (count-≤ net p) l)
+          (near-times (up-is-near (remaining-time-is net n h)) (path-rate-sum-near p)))
 
   -- ---- the lower
 
-  pub lower-short : (g : Transition → ℕ) (p : Path) → ValidSteps p → GrainedSteps net g p → length p ≤ 24 → Short 1500 (lower-with net g p) (lowerᴺ net g p) (upperᴺ net p)
+  pub lower-short : (g : Transition → ℕ) (p : Path) → ValidSteps p → GrainedSteps net g p → length p ≤ 24
+      → Short 1500 (lower-with net g p) (lowerᴺ net g p) (upperᴺ net p)
   unfolding lower-with lowerᴺ
   lower-short g p v w l = go (leb 1000000 (grain-sum net g p)) (nleb→lt 1000000 (grain-sum net g p))
     where
@@ -156,11 +167,18 @@ module _ {m : Model} (valid : Valid m) where
       t : Ratio
       t = remaining-timeᴺ net n
 
+      rounded : Figure
+      rounded = times-down (lower-product net g (down 9 (remaining-time net n)) p) (last-factor net n p)
+
+      exact : Ratio
+      exact = steppedᴺ net t (lower-valueᴺ net g) p ⊗ last-valueᴺ net t p
+
       go : (b : Bool) → (T (not b) → n < 1000000)
-          → Short 1500 (elim b as (λ _. Figure) [ true ↦ none | false ↦ times-down (lower-product net g (down 9 (remaining-time net n)) p) (last-factor net n p) ])
-          (elim b as (λ _. Ratio) [ true ↦ ofℕ 0 | false ↦ steppedᴺ net t (lower-valueᴺ net g) p ⊗ last-valueᴺ net t p ]) (upperᴺ net p)
+          → Short 1500 (elim b as (λ _. Figure) [ true ↦ none | false ↦ rounded ]) (elim b as (λ _. Ratio) [ true ↦ ofℕ 0 | false ↦ exact ])
+          (upperᴺ net p)
       go true h = short-none 1500 _
       go false h =
           let few : n ≤ 1000000 = omega (arith, h tt) in
-          short-≤ 1500 (omega arith) (short-≈ (≈-refl _) (times-one _)
-          (short-times (steps-short g (down 9 (remaining-time net n)) t (short-cap (remaining-time-≼ net n) (down-is-short (remaining-time-is net n few))) p v w l) (last-short n p few l)))
+          let time = short-cap (remaining-time-≼ net n) (down-is-short (remaining-time-is net n few)) in
+          let steps = steps-short g (down 9 (remaining-time net n)) t time p v w l in
+          short-≤ 1500 (omega arith) (short-≈ (≈-refl _) (times-one _) (short-times steps (last-short n p few l)))

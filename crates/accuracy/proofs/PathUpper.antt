@@ -41,16 +41,19 @@ module _ {m : Model} (valid : Valid m) where
       → Near (n + 19) (upper-step (m .net) c (counts-1 c + k) t u) (stepᴺ (timeᴺ (m .net)) (upper-valueᴺ (m .net)) c (counts-1 c + k) t x)
   unfolding upper-step
   upper-step-near class1 k n t u x l w p = let e : 1 + k ≡ suc k = omega arith in
-      rw e (near-≤ (n + 19) (omega arith) (near-by-whole k l (near-times (near-times p (near-exact (share-figure-is (t .manner) w))) (quantity-near (valid .time)))))
+      rw e (near-≤ (n + 19) (omega arith) (near-by-whole k l
+      (near-times (near-times p (near-exact (share-figure-is (t .manner) w))) (quantity-near (valid .time)))))
   upper-step-near class2 k n t u x l w p = near-≤ (n + 19) (omega arith) (near-times p (near-exact (share-figure-is (t .manner) w)))
   upper-step-near class3 k n t u x l w p =
-      near-≤ (n + 19) (omega arith) (near-≈ (⊗-assoc x _ _) (near-times (near-times p (near-exact (share-figure-is (t .manner) w))) (mean-near valid (t .from))))
+      near-≤ (n + 19) (omega arith) (near-≈ (⊗-assoc x _ _)
+      (near-times (near-times p (near-exact (share-figure-is (t .manner) w))) (mean-near valid (t .from))))
 
   steps-near : (p : Path) → ValidSteps p → length p ≤ 24 → Near (length p * 19) (upper (m .net) p) (upperᴺ (m .net) p)
   unfolding upper upperᴺ steppedᴺ Each class1-count
   steps-near [] w l = near-whole 1 (lit≤ tt)
   steps-near (t ∷ p) w l = let e : suc (length p) * 19 ≡ length p * 19 + 19 = omega arith in
-      rw e (upper-step-near (class (m .net) t) (class1-count (m .net) p) (length p * 19) t (upper (m .net) p) _ (short-count (length p) _ (count-≤ (m .net) p) (omega arith)) (w .0) (steps-near p (w .1) (omega arith)))
+      rw e (upper-step-near (class (m .net) t) (class1-count (m .net) p) (length p * 19) t (upper (m .net) p) _
+      (short-count (length p) _ (count-≤ (m .net) p) (omega arith)) (w .0) (steps-near p (w .1) (omega arith)))
 
   pub upper-near : (p : Path) → ValidSteps p → length p ≤ 24 → Near 456 (upper (m .net) p) (upperᴺ (m .net) p)
   upper-near p w l = near-≤ 456 (omega arith) (steps-near p w l)

@@ -59,7 +59,8 @@ module _ {m : Model} (valid : Valid m) (s : ℕ) where
   unfolding sum-over
   exits-sum R wider add addᴺ n step start = wider (n + length (exits (m .net) s)) (n + 16) _ _ (omega (arith, valid .few-exits s))
       (fold-count R (ValidTransition (m .states)) (λ a t. add a (t .manner)) (λ a t. addᴺ a (t .manner)) n
-      (λ k f x t w h p. step k f x (t .manner) (w .manner) h p) n (exits (m .net) s) (exits-each (ValidTransition (m .states)) (m .net .table) s (valid .table)) (omega arith) start)
+      (λ k f x t w h p. step k f x (t .manner) (w .manner) h p) n (exits (m .net) s)
+      (exits-each (ValidTransition (m .states)) (m .net .table) s (valid .table)) (omega arith) start)
 
   near-exits : (add : Figure → Manner → Figure) (addᴺ : Ratio → Manner → Ratio) (n : ℕ)
       → ((k : ℕ) (f : Figure) (x : Ratio) (y : Manner) → ValidManner y → n ≤ k → Near k f x → Near (k + 1) (add f y) (addᴺ x y))

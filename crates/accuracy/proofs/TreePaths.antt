@@ -78,20 +78,25 @@ module _ {m : Model} (valid : Valid m) where
   -- ---- any grains: g gives those of the steps of a path and may look at the whole path; each class 2 or 3 step has at least one
 
   module _ (g : Path → Transition → ℕ) (grained : (p : Path) → GrainedSteps net (g p) p) where
-    lowers-short : (test : Outcome → Bool) → Each (λ p. ShortOf 1500 (lower-with net (g p) p) (exact-lower-with net (g p) p) (exact-upper net p)) (paths test visits)
-    lowers-short = ended _ (λ p h. short-of (exact-lower-is net (g p) p) (exact-upper-is net p) (lower-short valid (g p) p (h .steps) (grained p) (h .few)))
+    lowers-short : (test : Outcome → Bool)
+        → Each (λ p. ShortOf 1500 (lower-with net (g p) p) (exact-lower-with net (g p) p) (exact-upper net p)) (paths test visits)
+    lowers-short = ended _ (λ p h. short-of (exact-lower-is net (g p) p) (exact-upper-is net p)
+        (lower-short valid (g p) p (h .steps) (grained p) (h .few)))
 
     pub any-grains-accurate : length visits ≤ 1000000
         → AccurateSums (exact-upper net) (λ p. exact-lower-with net (g p) p) (deaths visits) (cuts visits)
         (sum-to-nine-up (total-of-uppers (upper net) (deaths visits)) (total-of-uppers (upper net) (cuts visits)))
         (to-nine-down (total-of-lowers (λ p. lower-with net (g p) p) (deaths visits)))
-    any-grains-accurate few = sums-accurate (exact-upper net) (λ p. exact-lower-with net (g p) p) (upper net) (λ p. lower-with net (g p) p) 456 1500 (lit≤ tt) (lit≤ tt)
-        (deaths visits) (cuts visits) (omega (arith, ended-at-most visits)) (omega (arith, ended-at-most visits)) (uppers-near _) (uppers-near _) (lowers-short _)
+    any-grains-accurate few =
+        sums-accurate (exact-upper net) (λ p. exact-lower-with net (g p) p) (upper net) (λ p. lower-with net (g p) p)
+        456 1500 (lit≤ tt) (lit≤ tt) (deaths visits) (cuts visits)
+        (omega (arith, ended-at-most visits)) (omega (arith, ended-at-most visits)) (uppers-near _) (uppers-near _) (lowers-short _)
 
   -- ---- document 01's grains
 
   grains-grained : (p : Path) → GrainedSteps net (grains net p) p
-  grains-grained p = each-of-members (λ x. Grained (class net x) (grains net p x)) p (λ x _. go (class net x) (grains net p x) (grains-of-class net p x))
+  grains-grained p = each-of-members (λ x. Grained (class net x) (grains net p x)) p
+      (λ x _. go (class net x) (grains net p x) (grains-of-class net p x))
     where
       go : (c : Class) (n : ℕ) → GrainsOf c n → Grained c n
       go class1 n h = tt
