@@ -12,3 +12,4 @@ pub mod FirstFault
 pub mod Steps
 pub mod Asked
 pub mod Along
+pub mod Units

@@ -19,12 +19,12 @@ use Rattle.model.proofs.Exits.{exits-leave, index-below, index-exit}
 
 -- ---- a transition that stands at a place
 
-fast-at : (ws : List ℕ) → eqb (kind (getD ws 0 0)) 7 ≡ true
+pub fast-at : (ws : List ℕ) → eqb (kind (getD ws 0 0)) 7 ≡ true
     → (transition-at ws) .manner ≡ fast (quantity (getD ws 1 0)) (quantity (getD ws 2 0)) (quantity (getD ws 3 0))
 unfolding transition-at
 fast-at ws e = rw (e, transition-at)
 
-slow-at : (ws : List ℕ) → eqb (kind (getD ws 0 0)) 7 ≡ false → (transition-at ws) .manner ≡ slow (quantity (getD ws 1 0))
+pub slow-at : (ws : List ℕ) → eqb (kind (getD ws 0 0)) 7 ≡ false → (transition-at ws) .manner ≡ slow (quantity (getD ws 1 0))
 unfolding transition-at
 slow-at ws e = rw (e, transition-at)
 

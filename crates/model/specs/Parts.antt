@@ -77,7 +77,7 @@ slot-words ws slots places s n = along (λ i. getD ws (slot-place slots places s
 abbrev pub slot-transitions : List ℕ → List ℕ → List ℕ → ℕ → ℕ → List Transition
 slot-transitions ws slots places s n = along (λ i. transition-at (drop (slot-place slots places s i) ws)) n 0
 
--- The first n slots of the state s lead to words: each holds an index below 4,000, and a fast transition has its three words behind it.
+-- The first n slots of the state s lead to transitions' words: each holds an index below 4,000, and a fast transition has its three words behind it.
 pub record Leads (ws slots places : List ℕ) (s n : ℕ) : Type 0 where
   pub state : s ≤ 1000
   pub few : n ≤ 16
@@ -91,6 +91,14 @@ room-faults ws slots places n known w =
     (any (eqb w) (slot-words ws slots places (from-field w) n) gives 8)
     ∷ (leb 16 n || leb 4000 known gives 9)
     ∷ []
+
+-- the fast ones of these exits have probabilities that do not sum to 1
+abbrev pub sums-uneven : List Transition → Bool
+sums-uneven ts = has-fast ts && differs (probability-sum ts) 1000000000000
+
+-- the exits of each state are what its slots lead to
+abbrev pub Through : List ℕ → List ℕ → List ℕ → List ℕ → ℕ → Net → Type 0
+Through ws slots counts places states net = (s : ℕ) → s ≤ states → exits net s ≡ slot-transitions ws slots places s (getD counts s 0)
 
 -- ---- the reading so far
 

@@ -2,6 +2,7 @@
 mod faults;
 mod index;
 mod opening;
+mod probabilities;
 pub mod words;
 
 // A quantity of the table: coefficient / 10^scale.

@@ -1,0 +1,85 @@
+// The sums of the probabilities of each state's fast exits, in whole numbers of 10^-12.
+use crate::index::small;
+use crate::index::wide;
+use crate::words::is_fast;
+use crate::words::quantity_at;
+ghost use Prim.Native.Nat.{ℕ, _-_, _*_, _^_, _≤_};
+ghost use mathlib.Core.Path.{_≡_};
+ghost use lib.ListN.{getD};
+ghost use Rattle.model.specs.Model.{Net};
+ghost use Rattle.model.specs.Words.{scale-field, coefficient-field};
+ghost use Rattle.model.specs.Reading as reading;
+ghost use Rattle.model.specs.Parts.{slot-transitions, sums-uneven, Leads, Through};
+
+// 10^n
+fn ten_to(n: u32) -> u64
+    requires { ⌜ n ≤ 12 ⌝ }
+    ensures { λ r. ⌜ r ≡ 10 ^ n ⌝ }
+{
+    let mut p: u64 = 1;
+    let mut i = 0;
+    while i < n {
+        p = p * 10;
+        i += 1;
+    }
+    p
+}
+
+// The probability at the part's first word, as a whole number of 10^-12.
+fn units(part: &[u32]) -> u64
+    ensures { λ r. ⌜ r ≡ coefficient-field (getD (now (part .entry)) 0 0) * 10 ^ (12 - scale-field (getD (now (part .entry)) 0 0)) ⌝ }
+    ensures { λ r. ⌜ r ≤ 1048575000000000000 ⌝ }
+{
+    let q = quantity_at(part);
+    let p = q.scale;
+    let c = q.coefficient as u64;
+    if 12 <= p {
+        return c;
+    }
+    c * ten_to(12 - p)
+}
+
+// Do the first n slots of the state s lead to fast exits whose probabilities do not sum to 1?
+fn uneven(words: &[u32], slots: &[u16; 16016], places: &[u16; 4000], s: usize, n: usize) -> bool
+    requires { ⌜ Leads (now words) (now slots) (now places) s n ⌝ }
+    ensures { λ r. ⌜ r ≡ sums-uneven (slot-transitions (now (words .entry)) (now (slots .entry)) (now (places .entry)) s n) ⌝ }
+{
+    let mut sum: u64 = 0;
+    let mut any = false;
+    let mut i = 0;
+    while i < n {
+        let j = wide(slots[s * 16 + i]);
+        let at = wide(places[j]);
+        if is_fast(words[at]) {
+            any = true;
+            let third = at + 3;
+            sum = sum + units(&words[third..]);
+        }
+        i += 1;
+    }
+    if any {
+        return sum != 1_000_000_000_000;
+    }
+    false
+}
+
+// The lowest such state of 1 to `states`, by the exits that the index leads to, or 0.
+pub(crate) fn lowest_uneven(
+    words: &[u32],
+    states: usize,
+    slots: &[u16; 16016],
+    counts: &[u8; 1001],
+    places: &[u16; 4000],
+) -> usize
+    requires { ⌜ (states ≤ 1000) × ((s : ℕ) → s ≤ states → Leads (now words) (now slots) (now places) s (getD (now counts) s 0)) ⌝ }
+    ensures { λ r. ⌜ ((net : Net) → Through (now (words .entry)) (now (slots .entry)) (now (counts .entry)) (now (places .entry)) states net → r ≡ reading.lowest-uneven net states 1) ⌝ }
+{
+    let mut s = 1;
+    while s <= states {
+        if uneven(words, slots, places, s, small(counts[s])) {
+            return s;
+        }
+        s += 1;
+    }
+    0
+}
