@@ -9,6 +9,7 @@ pub mod Carried
 pub mod Order
 pub mod Ended
 pub mod Tally
+pub mod Going
 pub mod Answer
 pub mod Divisors
 pub mod Ranges

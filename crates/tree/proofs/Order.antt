@@ -39,7 +39,8 @@ module _ (net : Net) (limits : Limits) where
   beyond-goes-on zero p = each-at-limit net limits (λ v. GoesOn p (v .path)) p
   beyond-goes-on (suc n) p = each-beyond net limits (λ v. GoesOn p (v .path)) n p (λ t k. here t (beyond-goes-on n (t ∷ p)))
     where
-      here : (t : Transition) → Each (λ v. GoesOn (t ∷ p) (v .path)) (visits net limits n (t ∷ p)) → Each (λ v. GoesOn p (v .path)) (visits-from net limits n (t ∷ p))
+      here : (t : Transition) → Each (λ v. GoesOn (t ∷ p) (v .path)) (visits net limits n (t ∷ p))
+          → Each (λ v. GoesOn p (v .path)) (visits-from net limits n (t ∷ p))
       here t below =
           each-from net limits (λ v. GoesOn p (v .path)) n (t ∷ p) (record { more = t ∷ []; some = omega arith; is = refl })
           (λ e. each-monotone (λ v. GoesOn (t ∷ p) (v .path)) (λ v. GoesOn p (v .path)) (λ v. longer t p) (visits net limits n (t ∷ p)) below)
