@@ -22,6 +22,7 @@ use Rattle.model.proofs.Members.{neither}
 use Rattle.accuracy.specs.Bounds.{product, not-positive}
 
 infix 50 _is_
+-- `held` is x itself, written with a natural numerator; r may be another way to write that number
 pub record _is_ (x : Fraction) (r : Ratio) : Type 0 where
   pub held : Ratio
   pub equal : x ≡ signed held

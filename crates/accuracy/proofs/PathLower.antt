@@ -1,5 +1,6 @@
--- The rounded lower of a path of at most 24 steps is at or below the exact one, by at most 1,500 parts of 10^-8 of the path's exact upper: 60 for a
--- step, and those of the last factor. It holds for any grains, at least 1 for each class 2 or 3 step. Assumes nothing.
+-- The rounded lower of a path of at most 24 steps is at or below the exact one, by at most 1,500 parts of 10^-8 of the path's exact upper: 60 for
+-- each step, 45 for the last factor and one for its product, 1,486 in all. It holds for any grains, at least 1 for each class 2 or 3 step. Assumes
+-- nothing.
 use mathlib.Core.Path.{_≡_}
 use mathlib.Core.Bool.{Bool, true, false, not}
 use mathlib.Core.List.{[], _∷_}
@@ -67,6 +68,7 @@ module _ {m : Model} (valid : Valid m) where
 
   -- ---- what is taken off
 
+  -- E × m errs by 16 + 1 roundings, the quotient by M's two, its divisor's three and one; their sum by one more than the larger
   class2-loss-near : (s : ℕ) (mean deviation : Quantity) (n : ℕ) → 1 ≤ n → InRange 1 20 mean → InRange 0 20 deviation
       → Near 18 (class2-loss net s mean deviation n) (class2-lossᴺ net s mean deviation n)
   unfolding class2-loss class2-lossᴺ
@@ -80,6 +82,7 @@ module _ {m : Model} (valid : Valid m) where
       divisor : Under 3 (times-down (of-whole (n ^ 2)) (time-squared net)) (ofℕ (n ^ 2) ⊗ (timeᴺ net ⊗ timeᴺ net))
       divisor = unfold time-squared in under-times (under-whole (n ^ 2)) (under-times time-under time-under)
 
+  -- E × H / 2 errs by 16 + 19 + 1 + 1, the quotient by H's 19, its divisor's two and one; their sum by one more than the larger
   class3-loss-near : (s n : ℕ) → 1 ≤ n → Near 38 (class3-loss net s n) (class3-lossᴺ net s n)
   unfolding class3-loss class3-lossᴺ
   class3-loss-near s n h =
@@ -92,7 +95,7 @@ module _ {m : Model} (valid : Valid m) where
       divisor : Under 2 (times-down (of-whole n) (mission-time net)) (ofℕ n ⊗ timeᴺ net)
       divisor = under-times (under-whole n) time-under
 
-  -- ---- the factors
+  -- ---- the factors; each is at most what the step brings to the upper
 
   class2-short : (s : ℕ) (x : Manner) (n : ℕ) → 1 ≤ n → ValidManner x → Short 21 (class2-factor net s x n) (class2-valueᴺ net s x n) (shareᴺ x)
   unfolding class2-factor class2-valueᴺ ValidManner
@@ -130,6 +133,7 @@ module _ {m : Model} (valid : Valid m) where
 
   -- ---- A, and the last factor
 
+  -- A class 1 step adds an E, which errs by 16.
   path-rate-sum-near : (p : Path) → Near (16 + length p) (path-rate-sum net p) (path-rate-sumᴺ net p)
   unfolding path-rate-sum path-rate-sumᴺ
   path-rate-sum-near [] = near-≤ 16 (omega arith) (near-exact (⊗-zero _))

@@ -37,6 +37,7 @@ count-≤ net (t ∷ p) = go (class net t) (count-≤ net p)
     go class3 h = omega arith
 
 module _ {m : Model} (valid : Valid m) where
+  -- class 1 costs three roundings, class 2 one, class 3 two and the 17 of h
   upper-step-near : (c : Class) (k n : ℕ) (t : Transition) (u : Figure) (x : Ratio) → suc k < 10 ^ 9 → ValidManner (t .manner) → Near n u x
       → Near (n + 19) (upper-step (m .net) c (counts-1 c + k) t u) (stepᴺ (timeᴺ (m .net)) (upper-valueᴺ (m .net)) c (counts-1 c + k) t x)
   unfolding upper-step
