@@ -12,5 +12,5 @@ pub mod Tally
 pub mod Going
 pub mod Answer
 pub mod Divisors
-pub mod Ranges
 pub mod RemainingTime
+pub mod Ranges

@@ -1,18 +1,18 @@
 -- Every figure that the rules form in a valid model has nine digits and a power near 0: the powers of quantities, of sums over exits and of one
 -- step's values. So each is a figure that operations take. Assumes nothing.
 use mathlib.Core.Path.{_≡_, refl}
-use mathlib.Core.Bool.{true, false}
+use mathlib.Core.Bool.{Bool, true, false, not}
 use mathlib.Core.List.{List, [], _∷_}
-use Prim.Native.Nat.{ℕ, zero, suc, _+_, _*_, _^_, _≤_, _<_}
+use Prim.Native.Nat.{ℕ, suc, _+_, _-_, _*_, _^_, _≤_, _<_}
 use native.Mathlib.Nat.{le-trans, pow-le-pow-left, one-le-pow}
 use native.Mathlib.Omega.{arith}
-use lib.Dec.{lit≤}
+use lib.Dec.{T, leb, nleb→lt, lit≤}
 use lib.ListN.{length}
-use lib.IntN.{pos}
+use lib.IntN.{pos, negsuc}
 use Rattle.figure.specs.declared.Figure.{Figure}
-use Rattle.figure.specs.Rounding.{none, is-zero}
-use Rattle.figure.specs.Operations.{times-up, times-down, plus-up, minus-down, divided-up, divided-down, times-ten, of-whole}
-use Rattle.figure.specs.Operands.{Sized, Operand}
+use Rattle.figure.specs.Rounding.{none, is-zero, up, down}
+use Rattle.figure.specs.Operations.{times-up, times-down, plus-up, minus-down, divided-up, times-ten, of-whole}
+use Rattle.figure.specs.Operands.{Sized}
 use Rattle.figure.proofs.Sized.{sized-≤, times-up-sized, times-down-sized, plus-up-sized, plus-down-sized, minus-down-sized, divided-up-sized, divided-down-sized, times-ten-sized, of-whole-sized, of-quantity-sized}
 use Rattle.model.specs.declared.Quantity.{Quantity}
 use Rattle.model.specs.Model.{Manner, slow, fast, Transition, Net, Model, exits, has-fast}
@@ -20,10 +20,12 @@ use Rattle.model.proofs.Valid.{Each, InRange, ValidManner, Valid}
 use Rattle.tree.specs.Paths.{Path, Class, class1, class2, class3, class, counts-1, class1-count}
 use Rattle.tree.specs.States.{figure-of, mission-time, time-squared, second-moment, sum-over, add-rate, add-mean-up, add-mean-down, add-moment, rate-sum, mean-up, mean-down, moment-sum}
 use Rattle.tree.specs.Upper.{share, upper-step, upper}
-use Rattle.tree.specs.Grains.{class2-goal, class3-goal}
-use Rattle.tree.specs.Lower.{class2-loss, class3-loss, class2-factor, class3-factor, lower-step}
-use Rattle.tree.proofs.Positive.{Above, times-down-above, of-whole-above, ValidSteps, exits-valid, mean-down-above}
-use Rattle.tree.proofs.Divisors.{class1-count-low, time-above, time-squared-above}
+use Rattle.tree.specs.Grains.{class2-goal, class3-goal, grains, grain-sum}
+use Rattle.tree.specs.Lower.{class2-loss, class3-loss, class2-factor, class3-factor, lower-step, lower-product, add-rates, path-rate-sum, remaining-time, last-factor, lower-with, lower}
+use Rattle.tree.proofs.Least.{GrainsOf, grains-of-class}
+use Rattle.tree.proofs.Positive.{Above, times-down-above, of-whole-above, ValidSteps, exits-valid}
+use Rattle.tree.proofs.Divisors.{class1-count-low, time-above, time-squared-above, mean-time-above}
+use Rattle.tree.proofs.RemainingTime.{remaining-time-down, remaining-time-up}
 
 -- ---- quantities
 
@@ -62,12 +64,14 @@ add-rate-sized n a (fast m d q) few w h = sized-≤ (omega arith) h
 pub add-mean-up-sized : Grows add-mean-up
 unfolding ValidManner
 add-mean-up-sized n a (slow r) few w h = sized-≤ (omega arith) h
-add-mean-up-sized n a (fast m d q) few w h = sized-≤ (omega arith) (plus-up-sized h (times-up-sized (quantity-sized (w .1 .1)) (quantity-sized (w .0))))
+add-mean-up-sized n a (fast m d q) few w h =
+    sized-≤ (omega arith) (plus-up-sized h (times-up-sized (quantity-sized (w .1 .1)) (quantity-sized (w .0))))
 
 pub add-mean-down-sized : Grows add-mean-down
 unfolding ValidManner
 add-mean-down-sized n a (slow r) few w h = sized-≤ (omega arith) h
-add-mean-down-sized n a (fast m d q) few w h = sized-≤ (omega arith) (plus-down-sized h (times-down-sized (quantity-sized (w .1 .1)) (quantity-sized (w .0))))
+add-mean-down-sized n a (fast m d q) few w h =
+    sized-≤ (omega arith) (plus-down-sized h (times-down-sized (quantity-sized (w .1 .1)) (quantity-sized (w .0))))
 
 pub add-moment-sized : Grows add-moment
 unfolding ValidManner
@@ -149,3 +153,153 @@ upper-sized valid [] short w = of-whole-sized 1 (lit≤ tt)
 upper-sized {m} valid (t ∷ p) short w =
     sized-≤ (omega arith) (upper-step-sized valid (class (m .net) t) (class1-count (m .net) (t ∷ p)) t (class1-count-low (m .net) t p)
     (le-trans (class1-count-≤ (m .net) (t ∷ p)) short) (w .0) (upper-sized valid p (omega arith) (w .1)))
+
+-- ---- goals, losses and factors, of figures in range
+
+-- g of class 2, of M and T2
+pub goal2-sized : {moment time2 : Figure} → Sized 9 120 moment → Sized 9 100 time2 → Above time2
+    → Sized 9 300 (times-ten (divided-up (times-up (of-whole 2) moment) time2) (pos 18))
+goal2-sized p q z = sized-≤ (lit≤ tt) (times-ten-sized (pos 18) (divided-up-sized (times-up-sized (count-sized 2 (lit≤ tt)) p) q z))
+
+-- g of class 3, of H, h' and T
+pub goal3-sized : {moment mean time : Figure} → Sized 9 500 moment → Sized 9 500 mean → Sized 9 40 time → Above (times-down mean time)
+    → Sized 9 1100 (times-ten (divided-up moment (times-down mean time)) (pos 12))
+goal3-sized p q r z = sized-≤ (lit≤ tt) (times-ten-sized (pos 12) (divided-up-sized p (times-down-sized q r) z))
+
+-- a number of grains
+pub record GrainCount (n : ℕ) : Type 0 where
+  pub low : 1 ≤ n
+  pub high : n ≤ 1000000
+
+pub grain-count-sized : {n : ℕ} → GrainCount n → Sized 9 20 (of-whole n)
+grain-count-sized {n} g = count-sized n (le-trans (g .high) (lit≤ tt))
+
+pub grain-square-sized : {n : ℕ} → GrainCount n → Sized 9 20 (of-whole (n ^ 2))
+grain-square-sized {n} g = count-sized (n ^ 2) (le-trans (pow-le-pow-left (g .high) 2) (lit≤ tt))
+
+-- y of class 2, of E, m, M and T2
+pub loss2-sized : {rate mean moment time2 : Figure} {n : ℕ} → Sized 9 500 rate → Sized 9 40 mean → Sized 9 120 moment → Sized 9 100 time2 → Above time2
+    → GrainCount n → Sized 9 600 (plus-up (times-up rate mean) (times-ten (divided-up moment (times-down (of-whole (n ^ 2)) time2)) (pos 12)))
+loss2-sized {time2 = time2} {n} p q r t z g =
+    sized-≤ (lit≤ tt) (plus-up-sized (times-up-sized p q) (times-ten-sized (pos 12) (divided-up-sized r (times-down-sized (grain-square-sized g) t)
+    (times-down-above (of-whole (n ^ 2)) time2 (of-whole-above (n ^ 2) (one-le-pow 2 n (g .low))) z))))
+
+-- y of class 3, of E, H and T
+pub loss3-sized : {rate moment time : Figure} {n : ℕ} → Sized 9 500 rate → Sized 9 500 moment → Sized 9 40 time → Above time → GrainCount n
+    → Sized 9 1100 (plus-up (divided-up (times-up rate moment) (of-whole 2)) (times-ten (divided-up moment (times-down (of-whole n) time)) (pos 6)))
+loss3-sized {time = time} {n} p q t z g =
+    sized-≤ (lit≤ tt) (plus-up-sized (divided-up-sized (times-up-sized p q) (count-sized 2 (lit≤ tt)) (of-whole-above 2 (lit≤ tt)))
+    (times-ten-sized (pos 6) (divided-up-sized q (times-down-sized (grain-count-sized g) t)
+    (times-down-above (of-whole n) time (of-whole-above n (g .low)) z))))
+
+-- q or rate times a difference
+pub factor-sized : {share cap loss : Figure} → Sized 9 40 share → Sized 9 500 cap → Sized 9 1100 loss → Sized 9 1200 (times-down share (minus-down cap loss))
+factor-sized p q r = sized-≤ (lit≤ tt) (times-down-sized p (minus-down-sized q r))
+
+-- ---- the same of a valid model
+
+module _ {m : Model} (valid : Valid m) where
+  pub class2-goal-sized : {x d : Quantity} → InRange 1 20 x → InRange 0 20 d → Sized 9 300 (class2-goal (m .net) x d)
+  unfolding class2-goal
+  class2-goal-sized h k = goal2-sized (second-moment-sized h k) (time-squared-sized valid) (time-squared-above valid)
+
+  pub class3-goal-sized : (s : ℕ) → has-fast (exits (m .net) s) ≡ true → Sized 9 1100 (class3-goal (m .net) s)
+  unfolding class3-goal
+  class3-goal-sized s h = goal3-sized (moment-sum-sized valid s) (mean-down-sized valid s) (mission-time-sized valid) (mean-time-above valid s h)
+
+  pub class2-loss-sized : (s : ℕ) {x d : Quantity} {n : ℕ} → InRange 1 20 x → InRange 0 20 d → GrainCount n → Sized 9 600 (class2-loss (m .net) s x d n)
+  unfolding class2-loss
+  class2-loss-sized s h k g =
+      loss2-sized (rate-sum-sized valid s) (quantity-sized h) (second-moment-sized h k) (time-squared-sized valid) (time-squared-above valid) g
+
+  pub class3-loss-sized : (s : ℕ) {n : ℕ} → GrainCount n → Sized 9 1100 (class3-loss (m .net) s n)
+  unfolding class3-loss
+  class3-loss-sized s g = loss3-sized (rate-sum-sized valid s) (moment-sum-sized valid s) (mission-time-sized valid) (time-above valid) g
+
+  pub class2-factor-sized : (s : ℕ) (x : Manner) {n : ℕ} → ValidManner x → GrainCount n → Sized 9 1200 (class2-factor (m .net) s x n)
+  unfolding class2-factor ValidManner
+  class2-factor-sized s (slow r) w g = none-sized 1200
+  class2-factor-sized s (fast x d q) w g =
+      factor-sized (share-sized (fast x d q) w) (sized-≤ (lit≤ tt) (of-whole-sized 1 (lit≤ tt))) (sized-≤ (lit≤ tt) (class2-loss-sized s (w .0) (w .1 .0) g))
+
+  pub class3-factor-sized : (s : ℕ) (x : Manner) {n : ℕ} → ValidManner x → GrainCount n → Sized 9 1200 (class3-factor (m .net) s x n)
+  unfolding class3-factor
+  class3-factor-sized s x w g = factor-sized (share-sized x w) (mean-down-sized valid s) (class3-loss-sized s g)
+
+  -- ---- t, down and up
+
+  left-sized : (n : ℕ) → n ≤ 1000000 → Sized 9 20 (of-whole (1000000 - n))
+  left-sized n h = count-sized (1000000 - n) (le-trans {m = 1000000} (omega arith) (lit≤ tt))
+
+  pub time-down-sized : (n : ℕ) → n ≤ 1000000 → Sized 9 100 (down 9 (remaining-time (m .net) n))
+  time-down-sized n h = rw (remaining-time-down valid n h)
+      (sized-≤ (lit≤ tt) (times-ten-sized (negsuc 5) (times-down-sized (mission-time-sized valid) (left-sized n h))))
+
+  pub time-up-sized : (n : ℕ) → n ≤ 1000000 → Sized 9 100 (up 9 (remaining-time (m .net) n))
+  time-up-sized n h = rw (remaining-time-up valid n h)
+      (sized-≤ (lit≤ tt) (times-ten-sized (negsuc 5) (times-up-sized (mission-time-sized valid) (left-sized n h))))
+
+  -- ---- one more step of a lower
+
+  pub lower-step-sized : {n : ℕ} {t l : Figure} (c : Class) (k g : ℕ) (x : Transition) → (c ≡ class1 → 1 ≤ k) → k ≤ 24 → GrainsOf c g → ValidManner (x .manner)
+      → Sized 9 100 t → Sized 9 n l → Sized 9 (n + 1220) (lower-step (m .net) t c k g x l)
+  unfolding lower-step
+  lower-step-sized class1 k g x low high r w p h =
+      sized-≤ (omega arith) (divided-down-sized (times-down-sized (times-down-sized h (share-sized (x .manner) w)) p) (count-sized k (le-trans high (lit≤ tt)))
+      (of-whole-above k (low refl)))
+  lower-step-sized class2 k g x low high r w p h =
+      sized-≤ (omega arith) (times-down-sized h (class2-factor-sized (x .from) (x .manner) w (record { low = r .0; high = r .1 })))
+  lower-step-sized class3 k g x low high r w p h =
+      sized-≤ (omega arith) (times-down-sized h (class3-factor-sized (x .from) (x .manner) w (record { low = r .0; high = r .1 })))
+
+  pub lower-product-sized : (g : Transition → ℕ) {t : Figure} (p : Path) → ((x : Transition) → GrainsOf (class (m .net) x) (g x)) → length p ≤ 24 → ValidSteps p
+      → Sized 9 100 t → Sized 9 (20 + 1220 * length p) (lower-product (m .net) g t p)
+  unfolding lower-product Each
+  lower-product-sized g [] r short w h = of-whole-sized 1 (lit≤ tt)
+  lower-product-sized g (x ∷ p) r short w h =
+      sized-≤ (omega arith) (lower-step-sized (class (m .net) x) (class1-count (m .net) (x ∷ p)) (g x) x (class1-count-low (m .net) x p)
+      (le-trans (class1-count-≤ (m .net) (x ∷ p)) short) (r x) (w .0) h (lower-product-sized g p r (omega arith) (w .1) h))
+
+  -- ---- A and the last factor
+
+  pub path-rate-sum-sized : (p : Path) → Sized 9 (500 + 20 * length p) (path-rate-sum (m .net) p)
+  unfolding path-rate-sum
+  path-rate-sum-sized [] = none-sized 500
+  path-rate-sum-sized (x ∷ p) = go (class (m .net) x) (path-rate-sum-sized p)
+    where
+      go : (c : Class) {a : Figure} → Sized 9 (500 + 20 * length p) a → Sized 9 (500 + 20 * suc (length p)) (add-rates c a (rate-sum (m .net) (x .from)))
+      go class1 h = sized-≤ (omega arith) (plus-up-sized h (rate-sum-sized valid (x .from)))
+      go class2 h = sized-≤ (omega arith) h
+      go class3 h = sized-≤ (omega arith) h
+
+  pub last-sized : {a : Figure} (n k : ℕ) → n ≤ 1000000 → k ≤ 24 → Sized 9 1000 a
+      → Sized 9 1200 (minus-down (of-whole 1) (divided-up (times-up (up 9 (remaining-time (m .net) n)) a) (of-whole (k + 1))))
+  last-sized n k h few p =
+      sized-≤ (lit≤ tt) (minus-down-sized (of-whole-sized 1 (lit≤ tt)) (divided-up-sized (times-up-sized (time-up-sized n h) p)
+      (count-sized (k + 1) (le-trans {m = 25} (omega arith) (lit≤ tt))) (of-whole-above (k + 1) (omega arith))))
+
+  pub last-factor-sized : (n : ℕ) (p : Path) → n ≤ 1000000 → length p ≤ 24 → Sized 9 1200 (last-factor (m .net) n p)
+  unfolding last-factor
+  last-factor-sized n p h short =
+      last-sized n (class1-count (m .net) p) h (le-trans (class1-count-≤ (m .net) p) short) (sized-≤ (omega arith) (path-rate-sum-sized p))
+
+  -- ---- the lower of a path
+
+  pub lower-with-sized : (g : Transition → ℕ) (p : Path) → ((x : Transition) → GrainsOf (class (m .net) x) (g x)) → length p ≤ 24 → ValidSteps p
+      → Sized 9 32000 (lower-with (m .net) g p)
+  unfolding lower-with
+  lower-with-sized g p r short w = go (leb 1000000 N) (nleb→lt 1000000 N)
+    where
+      N : ℕ
+      N = grain-sum (m .net) g p
+
+      go : (b : Bool) → (T (not b) → N < 1000000)
+          → Sized 9 32000 (elim b as (λ _. Figure) [ true ↦ none | false ↦ times-down (lower-product (m .net) g (down 9 (remaining-time (m .net) N)) p) (last-factor (m .net) N p) ])
+      go true inside = none-sized 32000
+      go false inside =
+          let h : N ≤ 1000000 = omega (arith, inside tt) in
+          sized-≤ (omega arith) (times-down-sized (lower-product-sized g p r short w (time-down-sized N h)) (last-factor-sized N p h short))
+
+  pub lower-sized : (p : Path) → length p ≤ 24 → ValidSteps p → Sized 9 32000 (lower (m .net) p)
+  unfolding lower
+  lower-sized p short w = lower-with-sized (grains (m .net) p) p (grains-of-class (m .net) p) short w

@@ -1,35 +1,32 @@
 -- t, rounded, by operations on figures: a power of ten is exact, so t = T × (1,000,000 − N') / 1,000,000 is rounded as T × (1,000,000 − N') is,
 -- and then taken times 10^-6. Assumes nothing.
 use mathlib.Core.Path.{_≡_, refl, sym, _∙_, ap}
-use Prim.Native.Nat.{ℕ, suc, _+_, _-_, _^_, _≤_, _<_}
+use Prim.Native.Nat.{ℕ, suc, _-_, _^_, _≤_, _<_}
 use native.Mathlib.Nat.{le-trans, le-refl}
 use native.Mathlib.Omega.{arith}
 use lib.Dec.{lit≤}
 use lib.IntN.{ℤ, pos, negsuc, negℤ, _+ℤ_, +ℤ-comm, +ℤ-invr}
-use Rattle.fraction.specs.Fraction.{Fraction, _≤ᶠ_, whole, _-ᶠ_, _*ᶠ_, _/ᶠ_}
 use Rattle.fraction.proofs.Ratio.{Ratio, _≼_, _≈_, ofℕ, _⊗_, _⊖_, ≼-refl, ≼-trans, ≈-refl, ≈-sym, ≈-trans, ≈-le, ≈-ge, ⊗-mono, ⊗-cong, ⊗-comm, ⊗-assoc, ⊗-one, ofℕ-≼}
 use Rattle.fraction.proofs.Inverse.{inv, inv-ofℕ, _over_}
 use Rattle.fraction.proofs.PowersOfTen.{ten-to, ten-+, ten-zero}
 use Rattle.fraction.proofs.Signed.{signed, signed-≈, ≈-signed, signed-⊖, signed-⊗, signed-quotient, signed-whole, signed-ratio}
 use Rattle.figure.specs.declared.Figure.{Figure}
-use Rattle.figure.specs.Rounding.{value, IsFigure, IsUp, IsDown, up, down}
-use Rattle.figure.specs.Operations.{times-up, times-down, times-ten, of-whole, of-quantity}
-use Rattle.figure.specs.Operands.{Sized}
+use Rattle.figure.specs.Rounding.{IsFigure, IsUp, IsDown, up, down}
+use Rattle.figure.specs.Operations.{times-up, times-down, times-ten, of-whole}
 use Rattle.figure.proofs.Value.{val, value-is, val-≼, value-≼, below-value, below-val, above-value, above-val}
 use Rattle.figure.proofs.Up.{natural-up, up-unique}
 use Rattle.figure.proofs.Down.{natural-down, down-unique}
 use Rattle.figure.proofs.Rounding.{up-respects, down-respects}
 use Rattle.figure.proofs.Operations.{value-times}
 use Rattle.figure.proofs.Exact.{of-whole-exact, of-quantity-exact, natural-times-ten}
-use Rattle.figure.proofs.Sized.{sized-≤, times-up-sized, times-down-sized, times-ten-sized}
+use Rattle.figure.proofs.Sized.{times-ten-sized}
 use Rattle.model.specs.declared.Quantity.{Quantity}
-use Rattle.model.specs.Model.{Net, Model}
+use Rattle.model.specs.Model.{Model}
 use Rattle.model.proofs.Valid.{InRange, Valid}
 use Rattle.tree.specs.States.{figure-of, mission-time}
 use Rattle.tree.specs.Lower.{exact, remaining-time}
 use Rattle.tree.proofs.Positive.{Above, times-up-above, times-down-above, times-ten-above, of-whole-above}
 use Rattle.tree.proofs.Divisors.{time-above}
-use Rattle.tree.proofs.Ranges.{mission-time-sized, count-sized}
 
 -- ---- rounding x times a power of ten is rounding x, times that power
 
@@ -38,7 +35,10 @@ module _ (w : ℕ) (p : ℤ) where
   ten-figure f q i = (times-ten-sized q (record { is-figure = i; near = le-refl _ })) .is-figure
 
   undone : (x : Ratio) (a b : ℤ) → a +ℤ b ≡ pos 0 → x ⊗ ten-to a ⊗ ten-to b ≈ x
-  undone x a b e = ≈-trans (⊗-assoc _ _ _) (≈-trans (⊗-cong (≈-refl x) (≈-trans (≈-sym (ten-+ a b)) (rw e ten-zero))) (≈-trans (⊗-comm _ _) (⊗-one x)))
+  undone x a b e = ≈-trans (⊗-assoc _ _ _) (≈-trans (⊗-cong (≈-refl x) one) (≈-trans (⊗-comm _ _) (⊗-one x)))
+    where
+      one : ten-to a ⊗ ten-to b ≈ ofℕ 1
+      one = ≈-trans (≈-sym (ten-+ a b)) (rw e ten-zero)
 
   -- a figure divided by that power
   abbrev less : Figure → Figure
@@ -60,7 +60,8 @@ module _ (w : ℕ) (p : ℤ) where
   down-times-ten x = down-unique w (signed (x ⊗ ten-to p)) _ _ (natural-down w (x ⊗ ten-to p)) (record {
     is-figure = ten-figure f p (rounded .is-figure);
     not-above = above-value _ (≼-trans (≈-le (natural-times-ten f p)) (⊗-mono (above-val f (rounded .not-above)) (≼-refl _)));
-    greatest = λ g i h. value-≼ g (times-ten f p) (≼-trans (≈-ge (less-back g)) (≼-trans (⊗-mono (below g i (above-val g h)) (≼-refl _)) (≈-ge (natural-times-ten f p))));
+    greatest = λ g i h. value-≼ g (times-ten f p) (≼-trans (≈-ge (less-back g))
+        (≼-trans (⊗-mono (below g i (above-val g h)) (≼-refl _)) (≈-ge (natural-times-ten f p))));
   })
     where
       f : Figure
@@ -76,7 +77,8 @@ module _ (w : ℕ) (p : ℤ) where
   up-times-ten x = up-unique w (signed (x ⊗ ten-to p)) _ _ (natural-up w (x ⊗ ten-to p)) (record {
     is-figure = ten-figure f p (rounded .is-figure);
     not-below = below-value _ (≼-trans (⊗-mono (below-val f (rounded .not-below)) (≼-refl _)) (≈-ge (natural-times-ten f p)));
-    least = λ g i h. value-≼ (times-ten f p) g (≼-trans (≈-le (natural-times-ten f p)) (≼-trans (⊗-mono (above g i (below-val g h)) (≼-refl _)) (≈-le (less-back g))));
+    least = λ g i h. value-≼ (times-ten f p) g (≼-trans (≈-le (natural-times-ten f p))
+        (≼-trans (⊗-mono (above g i (below-val g h)) (≼-refl _)) (≈-le (less-back g))));
   })
     where
       f : Figure
@@ -130,7 +132,10 @@ module _ {m : Model} (valid : Valid m) (n : ℕ) (inside : n ≤ 1000000) where
       )
 
   by-figures : time ⊗ (ofℕ 1000000 ⊖ ofℕ n) ⊗ inv (ofℕ 1000000) ≈ val T ⊗ val left ⊗ ten-to (negsuc 5)
-  by-figures = ⊗-cong (⊗-cong (≈-sym (figure-is (valid .time))) (≈-trans (difference-is n inside) (≈-sym (whole-is (1000000 - n) (omega arith))))) million-is
+  by-figures = ⊗-cong (⊗-cong (≈-sym (figure-is (valid .time))) rest) million-is
+    where
+      rest : ofℕ 1000000 ⊖ ofℕ n ≈ val left
+      rest = ≈-trans (difference-is n inside) (≈-sym (whole-is (1000000 - n) (omega arith)))
 
   pub remaining-time-down : down 9 (remaining-time (m .net) n) ≡ times-ten (times-down T left) (negsuc 5)
   unfolding times-down
@@ -144,19 +149,10 @@ module _ {m : Model} (valid : Valid m) (n : ℕ) (inside : n ≤ 1000000) where
       ap (up 9) natural-time ∙ up-respects 8 _ _ (signed-≈ by-figures) ∙ up-times-ten 8 (negsuc 5) (val T ⊗ val left)
       ∙ ap (λ x. times-ten (up 9 x) (negsuc 5)) (sym (value-times T left))
 
-  -- ---- their ranges
-
-  left-sized : Sized 9 20 left
-  left-sized = count-sized (1000000 - n) (le-trans {m = 1000000} (omega arith) (lit≤ tt))
-
-  pub time-down-sized : Sized 9 100 (down 9 (remaining-time (m .net) n))
-  time-down-sized = rw remaining-time-down (sized-≤ (lit≤ tt) (times-ten-sized (negsuc 5) (times-down-sized (mission-time-sized valid) left-sized)))
-
-  pub time-up-sized : Sized 9 100 (up 9 (remaining-time (m .net) n))
-  time-up-sized = rw remaining-time-up (sized-≤ (lit≤ tt) (times-ten-sized (negsuc 5) (times-up-sized (mission-time-sized valid) left-sized)))
-
   pub time-down-above : n < 1000000 → Above (down 9 (remaining-time (m .net) n))
-  time-down-above h = rw remaining-time-down (times-ten-above _ (negsuc 5) (times-down-above T left (time-above valid) (of-whole-above (1000000 - n) (omega arith))))
+  time-down-above h = rw remaining-time-down (times-ten-above _ (negsuc 5)
+      (times-down-above T left (time-above valid) (of-whole-above (1000000 - n) (omega arith))))
 
   pub time-up-above : n < 1000000 → Above (up 9 (remaining-time (m .net) n))
-  time-up-above h = rw remaining-time-up (times-ten-above _ (negsuc 5) (times-up-above T left (time-above valid) (of-whole-above (1000000 - n) (omega arith))))
+  time-up-above h = rw remaining-time-up (times-ten-above _ (negsuc 5)
+      (times-up-above T left (time-above valid) (of-whole-above (1000000 - n) (omega arith))))
