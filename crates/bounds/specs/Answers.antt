@@ -1,0 +1,38 @@
+-- What the entry point promises. Assumes nothing: these are definitions.
+use Prim.Native.Nat.{ℕ, _<_}
+use mathlib.Core.Path.{_≡_}
+use mathlib.Core.List.{List}
+use lib.ListN.{length}
+use Rattle.model.specs.Model.{Net, Limits, Model}
+use Rattle.model.specs.Reading as reading
+use Rattle.model.specs.Refusal.{number, place}
+use Rattle.tree.specs.Tree.{tree}
+use Rattle.tree.specs.Report as definition
+use Rattle.accuracy.specs.Rule.{AccuracyRule}
+use Rattle.bounds.specs.declared.Report.{Report}
+use Rattle.bounds.specs.declared.Answer.{Answer}
+use Rattle.bounds.specs.declared.Answer.the-variants.{Report as reported, Refused}
+
+abbrev pub report-of : Report → definition.Report
+report-of r = record { lower = r .lower; upper = r .upper; cut = r .cut; deaths = r .deaths; cuts = r .cuts; steps = r .steps }
+
+-- document 01's answer for each case of the code's: the report, or the refusal's number and place
+abbrev pub answer-of : Answer → reading.Answer definition.Report
+answer-of (reported r) = reading.granted (report-of r)
+answer-of (Refused f) = reading.refused (number f) (place f)
+
+-- What `unreliability` promises, of the words before and after, the budget and its answer.
+pub record Promised (before after : List ℕ) (budget : ℕ) (r : Answer) : Type 0 where
+  -- demands 1 and 2: the answer is the definition's, a report with its figures and counts or a refusal with its number and place
+  pub answer-is : answer-of r ≡ definition.answer before budget
+  -- "A refusal carries its number and place, every figure and count in it is zero"
+  pub values-are : definition.values (answer-of r) ≡ definition.values (definition.answer before budget)
+  -- demand 3: the accuracy rule
+  pub accuracy : AccuracyRule before budget (answer-of r)
+  -- "the lent words are unchanged"
+  pub words-unchanged : after ≡ before
+  -- in a report the steps are the count of paths in the cut tree
+  pub steps-are : (m : Model) (q : definition.Report) → reading.read before budget ≡ reading.granted m → answer-of r ≡ reading.granted q → q .steps ≡ length (tree (m .net) (m .limits))
+  -- "An allowed budget is refused exactly when the tree has more steps than it"
+  pub refused-over : (m : Model) → reading.read before budget ≡ reading.granted m → budget < length (tree (m .net) (m .limits)) → answer-of r ≡ reading.refused 13 0
+  pub over-refused : (m : Model) → reading.read before budget ≡ reading.granted m → answer-of r ≡ reading.refused 13 0 → budget < length (tree (m .net) (m .limits))

@@ -1,0 +1,464 @@
+// The walk over the cut tree.
+ghost use mathlib.Core.Path.{_≡_};
+ghost use mathlib.Core.List.{_∷_};
+ghost use Prim.Native.Nat.{ℕ, _<_, _≤_};
+ghost use Rattle.figure.specs.Rounding.{IsFigure};
+ghost use Rattle.figure.specs.Operands.{Sized};
+ghost use Rattle.model.specs.Model.{Net};
+ghost use Rattle.model.specs.Index.{transition};
+ghost use Rattle.tree.specs.Paths.{Path};
+ghost use Rattle.tree.specs.States.{mission-time};
+ghost use Rattle.tree.specs.Lower as bound;
+ghost use Rattle.tree.specs.Tree as tree;
+ghost use Rattle.tree.proofs.Tally as running;
+ghost use Rattle.tree.proofs.Carried.{carried-visits};
+ghost use Rattle.bounds.specs.Tables.{Tabled, described, net-of};
+ghost use Rattle.bounds.specs.Deaths.{path-of, LastStep};
+ghost use Rattle.bounds.specs.Walk as walks;
+ghost use Rattle.bounds.specs.Walk.{Cached, Counted, Ready, Walked, totals-of};
+use crate::lower::Shared;
+use crate::lower::class_of;
+use crate::lower::lower_of;
+use crate::lower::shared_by;
+use crate::pack::unpack;
+use crate::states::small;
+use crate::states::wide;
+use figure::Figure;
+use model::words::is_fast;
+use model::words::target;
+
+// What stays the same in a walk: the mission time, the prune level, the entry limit and the budget.
+pub struct Task {
+    pub time: Figure,
+    pub level: Figure,
+    pub entries: u8,
+    pub budget: u64,
+}
+
+// The end of a path: its last state, its rounded upper, its class 1 steps and its steps.
+pub struct Tip {
+    pub state: usize,
+    pub upper: Figure,
+    pub ones: u64,
+    pub len: usize,
+}
+
+// The totals of eighteen digits, of the lowers and the uppers of death paths and of the uppers of cut paths, and the counts.
+pub struct Totals {
+    pub lower: Figure,
+    pub died: Figure,
+    pub cut: Figure,
+    pub deaths: u64,
+    pub cuts: u64,
+    pub steps: u64,
+}
+
+// What becomes of a path, with its reason.
+pub enum Outcome {
+    Death,
+    EnteredTooOften,
+    StepLimit,
+    LowLevel,
+    Continued,
+}
+
+// What the deaths share that leave the walk's state by a slow exit, once the first was met.
+pub struct Cache {
+    pub known: bool,
+    pub shared: Shared,
+}
+
+// The lower of a death path, and the cache after it.
+pub struct Died {
+    pub lower: Figure,
+    pub cache: Cache,
+}
+
+// The totals and the cache after a visit.
+pub struct Noted {
+    pub totals: Totals,
+    pub cache: Cache,
+}
+
+// U one step further: by a step of the class `class`, the k-th of class 1 if it is of class 1, with its share, h of the state that it leaves and T.
+fn further(class: u8, k: u64, upper: Figure, share: Figure, mean: Figure, time: Figure) -> Figure
+    requires { ⌜ Sized 9 20000 upper × Sized 9 1000 share × Sized 9 1000 mean × Sized 9 1000 time × (0 < k) × (k ≤ 24) ⌝ }
+    ensures { λ r. ⌜ r ≡ walks.upper-by class k upper share mean time ⌝ }
+{
+    let by_share = upper.times_up(share);
+    if class == 1 {
+        return by_share.times_up(time).divided_up(Figure::of_whole(k));
+    }
+    if class == 2 {
+        return by_share;
+    }
+    by_share.times_up(mean)
+}
+
+// What becomes of a path: by the number of exits of its last state, how often it entered that state before, the steps left below L, and U.
+fn judge(exits: u8, before: u8, left: usize, upper: Figure, level: Figure, entries: u8) -> Outcome
+    requires { ⌜ IsFigure 9 upper × IsFigure 9 level ⌝ }
+    ensures { λ r. ⌜ walks.outcome-of r ≡ walks.judged exits before left upper level entries ⌝ }
+{
+    if exits == 0 {
+        return Outcome::Death;
+    }
+    if entries <= before {
+        return Outcome::EnteredTooOften;
+    }
+    if left == 0 {
+        return Outcome::StepLimit;
+    }
+    if upper.at_or_below(level) {
+        return Outcome::LowLevel;
+    }
+    Outcome::Continued
+}
+
+fn is_death(o: Outcome) -> bool
+    ensures { λ r. ⌜ r ≡ tree.is-death (walks.outcome-of o) ⌝ }
+{
+    match o {
+        Outcome::Death => true,
+        Outcome::EnteredTooOften => false,
+        Outcome::StepLimit => false,
+        Outcome::LowLevel => false,
+        Outcome::Continued => false,
+    }
+}
+
+fn is_continued(o: Outcome) -> bool
+    ensures { λ r. ⌜ r ≡ tree.is-continued (walks.outcome-of o) ⌝ }
+{
+    match o {
+        Outcome::Death => false,
+        Outcome::EnteredTooOften => false,
+        Outcome::StepLimit => false,
+        Outcome::LowLevel => false,
+        Outcome::Continued => true,
+    }
+}
+
+// The totals with one death path more.
+fn with_death(t: Totals, lower: Figure, upper: Figure) -> Totals
+    requires { ⌜ Counted t × (t .steps < 1000000) × Sized 9 35000 lower × Sized 9 35000 upper ⌝ }
+    ensures { λ r. ⌜ totals-of r ≡ running.with-death (totals-of t) lower upper ⌝ }
+    ensures { λ r. ⌜ Counted r ⌝ }
+{
+    let total = t.lower;
+    let uppers = t.died;
+    let cut = t.cut;
+    let more = total.total_down(lower);
+    let more_uppers = uppers.total_up(upper);
+    Totals {
+        lower: more,
+        died: more_uppers,
+        cut,
+        deaths: t.deaths + 1,
+        cuts: t.cuts,
+        steps: t.steps + 1,
+    }
+}
+
+// The totals with one cut path more.
+fn with_cut(t: Totals, upper: Figure) -> Totals
+    requires { ⌜ Counted t × (t .steps < 1000000) × Sized 9 35000 upper ⌝ }
+    ensures { λ r. ⌜ totals-of r ≡ running.with-cut (totals-of t) upper ⌝ }
+    ensures { λ r. ⌜ Counted r ⌝ }
+{
+    let lower = t.lower;
+    let died = t.died;
+    let uppers = t.cut;
+    let more = uppers.total_up(upper);
+    Totals {
+        lower,
+        died,
+        cut: more,
+        deaths: t.deaths,
+        cuts: t.cuts + 1,
+        steps: t.steps + 1,
+    }
+}
+
+// The totals with one step more that ends no path.
+fn with_step(t: Totals) -> Totals
+    requires { ⌜ Counted t × (t .steps ≤ 1000000) ⌝ }
+    ensures { λ r. ⌜ totals-of r ≡ running.with-step (totals-of t) ⌝ }
+    ensures { λ r. ⌜ Counted r ⌝ }
+{
+    let lower = t.lower;
+    let died = t.died;
+    let cut = t.cut;
+    Totals {
+        lower,
+        died,
+        cut,
+        deaths: t.deaths,
+        cuts: t.cuts,
+        steps: t.steps + 1,
+    }
+}
+
+// The lower of a death path: its last step is the transition j of class `class` from the state s, after the path of the first `len` entries of
+// `path`, which has k class 1 steps. What a slow exit's deaths share is worked out for the first of them and kept.
+fn death(
+    words: &[u32],
+    places: &[u16; 4000],
+    shares: &[u64; 4000],
+    grains: &[u32; 4000],
+    factors: &[u64; 4000],
+    rates: &[u64; 1001],
+    means: &[u64; 1001],
+    time: Figure,
+    path: [u16; 24],
+    len: usize,
+    k: u64,
+    class: u8,
+    s: usize,
+    j: usize,
+    cache: Cache,
+) -> Died
+    requires { ⌜ Tabled (now words) (now places) (now shares) (now grains) (now factors) (now rates) (now means) ⌝ }
+    requires { ⌜ LastStep (net-of (now words)) path len k class s j × (time ≡ mission-time (net-of (now words))) ⌝ }
+    requires { ⌜ Cached (net-of (now words)) (path-of (net-of (now words)) path len) s cache ⌝ }
+    ensures { λ r. ⌜ r .lower ≡ bound.lower (net-of (now (words .entry))) (transition (net-of (now (words .entry))) j ∷ path-of (net-of (now (words .entry))) path len) ⌝ }
+    ensures { λ r. ⌜ Cached (net-of (now (words .entry))) (path-of (net-of (now (words .entry))) path len) s (r .cache) ⌝ }
+{
+    let mut shared = cache.shared;
+    let known = cache.known;
+    let slow = class != 2;
+    if !(known && slow) {
+        shared = shared_by(
+            words,
+            places,
+            shares,
+            grains,
+            factors,
+            rates,
+            means,
+            time,
+            path,
+            len,
+            k,
+            class,
+            s,
+            j,
+        );
+    }
+    let mut ones = k;
+    if class == 1 {
+        ones = k + 1;
+    }
+    let lower = lower_of(shared, class, unpack(shares[j]), unpack(factors[j]), ones);
+    if slow {
+        let kept = Cache {
+            known: true,
+            shared,
+        };
+        return Died { lower, cache: kept };
+    }
+    Died { lower, cache }
+}
+
+// One visit noted: of the path at `tip` with the transition j of class `class` as its last step, whose upper is `upper`; `path` has the tip's path.
+fn note(
+    words: &[u32],
+    places: &[u16; 4000],
+    shares: &[u64; 4000],
+    grains: &[u32; 4000],
+    factors: &[u64; 4000],
+    rates: &[u64; 1001],
+    means: &[u64; 1001],
+    time: Figure,
+    tip: Tip,
+    path: [u16; 24],
+    class: u8,
+    j: usize,
+    upper: Figure,
+    o: Outcome,
+    totals: Totals,
+    cache: Cache,
+) -> Noted
+    requires { ⌜ Tabled (now words) (now places) (now shares) (now grains) (now factors) (now rates) (now means) ⌝ }
+    requires { ⌜ LastStep (net-of (now words)) path (tip .len) (tip .ones) class (tip .state) j × (time ≡ mission-time (net-of (now words))) ⌝ }
+    requires { ⌜ Cached (net-of (now words)) (path-of (net-of (now words)) path (tip .len)) (tip .state) cache ⌝ }
+    requires { ⌜ Counted totals × (totals .steps < 1000000) × Sized 9 35000 upper ⌝ }
+    ensures { λ r. ⌜ totals-of (r .totals) ≡ running.noted (totals-of totals) (walks.outcome-of o) (bound.lower (net-of (now (words .entry))) (transition (net-of (now (words .entry))) j ∷ path-of (net-of (now (words .entry))) path (tip .len))) upper ⌝ }
+    ensures { λ r. ⌜ Cached (net-of (now (words .entry))) (path-of (net-of (now (words .entry))) path (tip .len)) (tip .state) (r .cache) ⌝ }
+    ensures { λ r. ⌜ Counted (r .totals) ⌝ }
+{
+    if is_death(o) {
+        let died = death(
+            words,
+            places,
+            shares,
+            grains,
+            factors,
+            rates,
+            means,
+            time,
+            path,
+            tip.len,
+            tip.ones,
+            class,
+            tip.state,
+            j,
+            cache,
+        );
+        let lower = died.lower;
+        let kept = died.cache;
+        let more = with_death(totals, lower, upper);
+        return Noted {
+            totals: more,
+            cache: kept,
+        };
+    }
+    if is_continued(o) {
+        let more = with_step(totals);
+        return Noted {
+            totals: more,
+            cache,
+        };
+    }
+    let more = with_cut(totals, upper);
+    Noted {
+        totals: more,
+        cache,
+    }
+}
+
+fn no_cache() -> Cache
+    ensures { λ r. ⌜ ((net : Net) (p : Path) (s : ℕ) → Cached net p s r) ⌝ }
+{
+    Cache {
+        known: false,
+        shared: Shared {
+            filled: true,
+            time: Figure::zero(),
+            product: Figure::zero(),
+            last: Figure::zero(),
+        },
+    }
+}
+
+// The tip one step further.
+fn next_tip(tip: Tip, class: u8, to: usize, share: Figure, mean: Figure, time: Figure) -> Tip
+    requires { ⌜ Sized 9 20000 (tip .upper) × Sized 9 1000 share × Sized 9 1000 mean × Sized 9 1000 time × (tip .ones < 24) × (tip .len < 24) ⌝ }
+    ensures { λ r. ⌜ r ≡ walks.tip-by tip class to share mean time ⌝ }
+{
+    let upper = tip.upper;
+    let len = tip.len + 1;
+    let k = tip.ones + 1;
+    let next = further(class, k, upper, share, mean, time);
+    if class == 1 {
+        return Tip {
+            state: to,
+            upper: next,
+            ones: k,
+            len,
+        };
+    }
+    Tip {
+        state: to,
+        upper: next,
+        ones: tip.ones,
+        len,
+    }
+}
+
+// Walks every exit of the tip's state. `left` is the number of steps that the path may still take. It hands back the totals with the steps taken,
+// and stops at the first step past the budget.
+pub(crate) fn walk(
+    words: &[u32],
+    slots: &[u16; 16016],
+    counts: &[u8; 1001],
+    places: &[u16; 4000],
+    shares: &[u64; 4000],
+    grains: &[u32; 4000],
+    factors: &[u64; 4000],
+    rates: &[u64; 1001],
+    means: &[u64; 1001],
+    task: Task,
+    tip: Tip,
+    left: usize,
+    entries: [u8; 1001],
+    path: [u16; 24],
+    totals: Totals,
+) -> Totals
+    requires { ⌜ Ready (now words) (now slots) (now counts) (now places) (now shares) (now grains) (now factors) (now rates) (now means) task tip left entries path totals ⌝ }
+    ensures { λ r. ⌜ Walked (net-of (now (words .entry))) (carried-visits (net-of (now (words .entry))) (described (now (words .entry)) .limits) left (walks.carried-of (net-of (now (words .entry))) path tip entries)) (task .budget) totals r ⌝ }
+{
+    let mut entered = entries;
+    let mut taken = path;
+    let mut sums = totals;
+    let mut cache = no_cache();
+    let time = task.time;
+    let level = task.level;
+    let s = tip.state;
+    let len = tip.len;
+    let mean = means[s];
+    let h = unpack(mean);
+    let count = small(counts[s]);
+    let mut i: usize = 0;
+    while i < count {
+        if sums.steps == task.budget {
+            return with_step(sums);
+        }
+        let x = slots[s * 16 + i];
+        let j = wide(x);
+        let w = words[wide(places[j])];
+        let class = class_of(is_fast(w), mean);
+        let to = target(w);
+        let next = next_tip(tip, class, to, unpack(shares[j]), h, time);
+        let before = entered[to];
+        let upper = next.upper;
+        let o = judge(counts[to], before, left - 1, upper, level, task.entries);
+        let noted = note(
+            words,
+            places,
+            shares,
+            grains,
+            factors,
+            rates,
+            means,
+            time,
+            tip,
+            path,
+            class,
+            j,
+            upper,
+            o,
+            sums,
+            cache,
+        );
+        sums = noted.totals;
+        cache = noted.cache;
+        if is_continued(o) {
+            entered[to] = before + 1;
+            taken[len] = x;
+            sums = walk(
+                words,
+                slots,
+                counts,
+                places,
+                shares,
+                grains,
+                factors,
+                rates,
+                means,
+                task,
+                next,
+                left - 1,
+                entered,
+                taken,
+                sums,
+            );
+            entered[to] = before;
+            if task.budget < sums.steps {
+                return sums;
+            }
+        }
+        i += 1;
+    }
+    sums
+}
