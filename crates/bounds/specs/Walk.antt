@@ -4,7 +4,7 @@ use mathlib.Core.Path.{_≡_}
 use mathlib.Core.Bool.{Bool, true, false}
 use mathlib.Core.List.{List, [], _∷_}
 use lib.ListN.{length, getD}
-use lib.Dec.{leb, eqb}
+use lib.Dec.{leb, ltb, eqb}
 use Rattle.figure.specs.declared.Figure.{Figure}
 use Rattle.figure.specs.Rounding.{none}
 use Rattle.figure.specs.Operations.{times-up, divided-up, of-whole, at-or-below}
@@ -19,6 +19,7 @@ use Rattle.tree.specs.Tree.{Outcome, death, entered-too-often, step-limit, low-
 use Rattle.tree.proofs.Outcomes.{decided}
 use Rattle.tree.proofs.Carried.{Carried, Carries}
 use Rattle.tree.proofs.Tally as running
+use Rattle.tree.proofs.Going.{Walked}
 use Rattle.bounds.specs.declared.walk.Outcome.{Outcome as Coded}
 use Rattle.bounds.specs.declared.walk.Outcome.the-variants.{Death, EnteredTooOften, StepLimit, LowLevel, Continued}
 use Rattle.bounds.specs.declared.walk.Task.{Task}
@@ -117,9 +118,7 @@ pub record Ready (ws slots counts places shares grain-counts factors rates means
   pub counted : Counted totals
   pub within : totals .steps ≤ task .budget
 
--- What a walk over some visits hands back, from the totals a: where the budget has room for all of them, their totals; else totals whose steps are
--- above the budget.
-pub record Walked (net : Net) (vs : List Visit) (budget : ℕ) (a r : Totals) : Type 0 where
-  pub within : a .steps + length vs ≤ budget → totals-of r ≡ running.tally net (totals-of a) vs
-  pub over : budget < a .steps + length vs → budget < r .steps
-  pub counted : r .steps ≤ budget → Counted r
+-- What a walk over some visits hands back, from the totals a on: where the budget has room for all of them, their totals; else totals whose steps
+-- are above the budget. The steps tell which.
+abbrev pub Ends : Net → ℕ → Totals → List Visit → Totals → Type 0
+Ends net budget a vs r = Walked net budget (totals-of a) vs (ltb budget (r .steps)) (totals-of r)

@@ -6,7 +6,7 @@ ghost use Rattle.tree.specs.States as states;
 ghost use Rattle.tree.specs.Tree.{tree};
 ghost use Rattle.tree.proofs.Tally as running;
 ghost use Rattle.bounds.specs.Tables.{Indexes, described, net-of};
-ghost use Rattle.bounds.specs.Walk.{Counted, Walked, nothing-yet, totals-of};
+ghost use Rattle.bounds.specs.Walk.{Counted, Ends, nothing-yet, totals-of};
 ghost use Rattle.bounds.specs.Answers.{Promised, report-of};
 use crate::states::fill_states;
 use crate::steps::fill_steps;

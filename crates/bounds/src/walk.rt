@@ -15,7 +15,7 @@ ghost use Rattle.tree.proofs.Carried.{carried-visits};
 ghost use Rattle.bounds.specs.Tables.{Tabled, described, net-of};
 ghost use Rattle.bounds.specs.Deaths.{path-of, LastStep};
 ghost use Rattle.bounds.specs.Walk as walks;
-ghost use Rattle.bounds.specs.Walk.{Cached, Counted, Ready, Walked, totals-of};
+ghost use Rattle.bounds.specs.Walk.{Cached, Counted, Ready, Ends, totals-of};
 use crate::lower::Shared;
 use crate::lower::class_of;
 use crate::lower::lower_of;
@@ -386,7 +386,8 @@ pub(crate) fn walk(
     totals: Totals,
 ) -> Totals
     requires { ⌜ Ready (now words) (now slots) (now counts) (now places) (now shares) (now grains) (now factors) (now rates) (now means) task tip left entries path totals ⌝ }
-    ensures { λ r. ⌜ Walked (net-of (now (words .entry))) (carried-visits (net-of (now (words .entry))) (described (now (words .entry)) .limits) left (walks.carried-of (net-of (now (words .entry))) path tip entries)) (task .budget) totals r ⌝ }
+    ensures { λ r. ⌜ Ends (net-of (now (words .entry))) (task .budget) totals (carried-visits (net-of (now (words .entry))) (described (now (words .entry)) .limits) left (walks.carried-of (net-of (now (words .entry))) path tip entries)) r ⌝ }
+    ensures { λ r. ⌜ Counted r ⌝ }
 {
     let mut entered = entries;
     let mut taken = path;
