@@ -60,7 +60,7 @@ pub record SharedAt (net : Net) (p : Path) (n : ℕ) (a : Figure) (k : ℕ) (c :
   pub last-is : c .filled ≡ false → c .last ≡ last-by net n a k
 
 -- the same by the class of the last step, its own grains g and the state s that it leaves
-pub SharedBy : Net → Path → Class → ℕ → ℕ → Shared → Type 0
+abbrev pub SharedBy : Net → Path → Class → ℕ → ℕ → Shared → Type 0
 SharedBy net p x g s c = SharedAt net p (grains-in x g + grain-sum net (own-grains net) p) (add-rates x (path-rate-sum net p) (rate-sum net s)) (counts-1 x + class1-count net p) c
 
 -- ---- one death
@@ -68,7 +68,7 @@ SharedBy net p x g s c = SharedAt net p (grains-in x g + grain-sum net (own-grai
 -- the figures that deaths share are in range
 pub record SharedSized (c : Shared) : Type 0 where
   pub time : Sized 9 100 (c .time)
-  pub product : Sized 9 29000 (c .product)
+  pub product : Sized 9 30000 (c .product)
   pub last : Sized 9 2000 (c .last)
 
 -- the lower of a death path: by the number of its last step's class, with that step's share and factor, the path having k class 1 steps

@@ -65,7 +65,7 @@ unfoldable pub sums : Net → ℕ → Sums
 sums net s = record { rate = rate-sum net s; mean = mean-up net s; floor = mean-down net s; moment = moment-sum net s }
 
 -- a table holds a figure of each state from 1 to n
-pub StatesHold : (ℕ → Figure) → ℕ → List ℕ → Type 0
+abbrev pub StatesHold : (ℕ → Figure) → ℕ → List ℕ → Type 0
 StatesHold f n table = (s : ℕ) → 1 ≤ s → s ≤ n → unpacked (getD table s 0) ≡ f s
 
 pub record StateTables (net : Net) (n : ℕ) (rates means floors moments : List ℕ) : Type 0 where
@@ -92,13 +92,13 @@ pub record StepReady (ws places rates floors moments : List ℕ) (time : Figure)
   pub moments-are : StatesHold (moment-sum (net-of ws)) ((described ws) .states) moments
 
 -- a table holds the share, one the grains and one the factor of each of the first n transitions
-pub SharesHold : Net → ℕ → List ℕ → Type 0
+abbrev pub SharesHold : Net → ℕ → List ℕ → Type 0
 SharesHold net n table = (j : ℕ) → j < n → unpacked (getD table j 0) ≡ share ((transition net j) .manner)
 
-pub GrainsHold : Net → ℕ → List ℕ → Type 0
+abbrev pub GrainsHold : Net → ℕ → List ℕ → Type 0
 GrainsHold net n table = (j : ℕ) → j < n → getD table j 0 ≡ grains net [] (transition net j)
 
-pub FactorsHold : Net → ℕ → List ℕ → Type 0
+abbrev pub FactorsHold : Net → ℕ → List ℕ → Type 0
 FactorsHold net n table = (j : ℕ) → j < n → unpacked (getD table j 0) ≡ step-factor net (class net (transition net j)) (transition net j)
 
 pub record StepTables (net : Net) (n : ℕ) (shares grain-counts factors : List ℕ) : Type 0 where

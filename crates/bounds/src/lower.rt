@@ -145,7 +145,7 @@ fn shared_at(
     requires { ⌜ Classed (now words) (now places) (now means) × Known (net-of (now words)) path len ⌝ }
     requires { ⌜ tables.SharesHold (net-of (now words)) (length (net-of (now words) .table)) (now shares) ⌝ }
     requires { ⌜ tables.FactorsHold (net-of (now words)) (length (net-of (now words) .table)) (now factors) ⌝ }
-    requires { ⌜ (time ≡ mission-time (net-of (now words))) × Sized 9 2000 rates × (ones ≤ 24) ⌝ }
+    requires { ⌜ (time ≡ mission-time (net-of (now words))) × Sized 9 1000 rates × (ones ≤ 24) ⌝ }
     ensures { λ r. ⌜ SharedAt (net-of (now (words .entry))) (path-of (net-of (now (words .entry))) path len) n rates ones r ⌝ }
     ensures { λ r. ⌜ SharedSized r ⌝ }
 {
