@@ -11,9 +11,9 @@ use Rattle.figure.specs.Operations.{times-up, divided-up, of-whole, at-or-below
 use Rattle.figure.proofs.Gathered.{Gathered}
 use Rattle.model.specs.Model.{Transition, Net, Limits, Model, exits, has-fast}
 use Rattle.model.specs.Index.{transition}
-use Rattle.tree.specs.Paths.{Path, Class, class1, class2, class3, class1-count}
+use Rattle.tree.specs.Paths.{Path, Class, class1, class2, class3, class, counts-1, class1-count}
 use Rattle.tree.specs.States.{mission-time, figure-of}
-use Rattle.tree.specs.Upper.{upper}
+use Rattle.tree.specs.Upper.{upper-step, upper}
 use Rattle.tree.specs.Grains.{class3-grains}
 use Rattle.tree.specs.Tree.{Outcome, death, entered-too-often, step-limit, low-level, continued, Visit}
 use Rattle.tree.proofs.Outcomes.{decided}
@@ -61,6 +61,12 @@ tip-by tip x to share mean time =
       ones = elim (eqb x 1) [ true ↦ tip .ones + 1 | false ↦ tip .ones ];
       len = tip .len + 1;
     }
+
+-- the same of a transition of a net: by its class, the class 1 steps counted with it
+unfoldable pub tip-after : Net → Transition → Tip → Tip
+tip-after net t tip =
+    let k = counts-1 (class net t) + tip .ones in
+    record { state = t .to; upper = upper-step net (class net t) k t (tip .upper); ones = k; len = tip .len + 1 }
 
 -- what becomes of a path, by the number of its last state's exits
 unfoldable pub judged : ℕ → ℕ → ℕ → Figure → Figure → ℕ → Outcome

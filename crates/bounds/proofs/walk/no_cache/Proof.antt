@@ -1,0 +1,29 @@
+-- `no_cache` meets its contract: nothing is known, and the figures are 0. Assumes nothing.
+use mathlib.Core.Path.{sym}
+use mathlib.Core.Bool.{true≢false}
+use borrow.Author.Needs.{needs}
+use Rattle.tree.proofs.Ranges.{none-sized}
+use Rattle.bounds.proofs.walk.no_cache.Statement.{statement}
+use Rattle.bounds.proofs.walk.no_cache.Tie as tie
+
+zero-requires : tie.Need-zero-requires
+zero-requires c κs = search needs
+
+zero-requires-2 : tie.Need-zero-requires-2
+zero-requires-2 c κs = search needs
+
+zero-requires-3 : tie.Need-zero-requires-3
+zero-requires-3 c κs = search needs
+
+returns : tie.Need-returns
+returns c = λ net p s. record {
+  shared-is = λ e. absurd (true≢false (sym e));
+  sized = record {
+    time = rw (c .before .before .zero .ensures) (none-sized _);
+    product = rw (c .before .zero2 .ensures) (none-sized _);
+    last = rw (c .zero3 .ensures) (none-sized _);
+  };
+}
+
+pub no-cache-spec : {M : Type 1} → statement M
+no-cache-spec = tie.close (tie.spec zero-requires zero-requires-2 zero-requires-3 returns)
