@@ -1,0 +1,132 @@
+-- A part of the words that begins at a transition: what its words are, and the figures that are read from them. Assumes nothing.
+use Prim.Native.Nat.{ℕ, _+_, _-_, _≤_, _<_}
+use mathlib.Core.Path.{_≡_, refl, sym, ap, _∙_}
+use mathlib.Core.Bool.{Bool, true, false}
+use mathlib.Core.List.{List}
+use native.Mathlib.Nat.{add-zero, le-trans}
+use native.Mathlib.Omega.{arith}
+use lib.Dec.{eqb, lit≤}
+use lib.ListN.{length, getD, take, drop, length-drop}
+use lib.Seq.{getD-drop}
+use borrow.Author.Tests.{eqb-true}
+use Rattle.figure.specs.declared.Figure.{Figure}
+use Rattle.figure.specs.Operands.{Sized}
+use Rattle.figure.proofs.Sized.{sized-≤}
+use Rattle.model.specs.declared.Quantity.{Quantity}
+use Rattle.model.specs.Model.{Manner, slow, fast, Transition, is-fast}
+use Rattle.model.specs.Words.{kind, coefficient-field, quantity}
+use Rattle.model.specs.Index.{transition-at, word-count, Stands}
+use Rattle.model.proofs.Valid.{InRange, ValidManner}
+use Rattle.model.proofs.Steps.{part-from}
+use Rattle.model.proofs.Slots.{fast-at, slow-at, stands-inside, stands-inside-fast}
+use Rattle.tree.specs.States.{figure-of}
+use Rattle.tree.proofs.Ranges.{quantity-sized}
+use Rattle.bounds.specs.Tables.{StandsFirst}
+
+-- the first word of the part from k on
+abbrev pub word-from : List ℕ → ℕ → ℕ
+word-from part k = getD (take (length part - k) (drop k part)) 0 0
+
+pub word-is : (part : List ℕ) (k : ℕ) → word-from part k ≡ getD part k 0
+word-is part k = ap (λ (l : List ℕ). getD l 0 0) (part-from part k) ∙ getD-drop k part 0 0 ∙ ap (λ (i : ℕ). getD part i 0) (add-zero k)
+
+-- a transition that stands at a place is the first of the part from there on
+pub stands-first : {ws : List ℕ} {place : ℕ} {t : Transition} → Stands ws place t → ValidManner (t .manner)
+    → StandsFirst (take (length ws - place) (drop place ws))
+stands-first {ws} {place} {t} stands valid = rw (part-from ws place) (record {
+  transition = t;
+  stands = record { inside = omega (arith, stands .inside, length-drop place ws); reads = stands .reads };
+  valid = valid;
+})
+
+pub part-manner : {ws : List ℕ} {place : ℕ} {t : Transition} → Stands ws place t
+    → (transition-at (take (length ws - place) (drop place ws))) .manner ≡ t .manner
+part-manner {ws} {place} stands = rw (part-from ws place) (ap (λ (u : Transition). u .manner) (stands .reads))
+
+-- the figures of a fast exit: mean, deviation and probability
+pub record FastRead (x : Manner) (m d q : Figure) : Type 0 where
+  pub mean : Quantity
+  pub deviation : Quantity
+  pub probability : Quantity
+  pub manner : x ≡ fast mean deviation probability
+  pub mean-valid : InRange 1 20 mean
+  pub deviation-valid : InRange 0 20 deviation
+  pub probability-valid : InRange 1 12 probability
+  pub mean-is : m ≡ figure-of mean
+  pub deviation-is : d ≡ figure-of deviation
+  pub probability-is : q ≡ figure-of probability
+
+-- the figure of a slow exit
+pub record SlowRead (x : Manner) (r : Figure) : Type 0 where
+  pub rate : Quantity
+  pub manner : x ≡ slow rate
+  pub valid : InRange 1 20 rate
+  pub rate-is : r ≡ figure-of rate
+
+low-coefficient : {a b : ℕ} (w : ℕ) → InRange a b (quantity w) → coefficient-field w < 1000000
+low-coefficient w h = omega (arith, h .high)
+
+module _ {part : List ℕ} (first : StandsFirst part) where
+  first-valid : ValidManner ((transition-at part) .manner)
+  first-valid = rw (first .stands .reads) (first .valid)
+
+  pub first-long : 1 < length part
+  first-long = stands-inside (first .stands)
+
+  module _ (test : eqb (kind (getD part 0 0)) 7 ≡ true) where
+    fast-valid : InRange 1 20 (quantity (getD part 1 0)) × (InRange 0 20 (quantity (getD part 2 0)) × InRange 1 12 (quantity (getD part 3 0)))
+    unfolding ValidManner
+    fast-valid = rw (fast-at part test) at first-valid
+
+    pub first-long-fast : 3 < length part
+    first-long-fast = stands-inside-fast (first .stands) (eqb-true (kind (getD part 0 0)) 7 test)
+
+    pub fast-1 : coefficient-field (word-from part 1) < 1000000
+    fast-1 = rw (word-is part 1) (low-coefficient (getD part 1 0) (fast-valid .0))
+
+    pub fast-2 : coefficient-field (word-from part 2) < 1000000
+    fast-2 = rw (word-is part 2) (low-coefficient (getD part 2 0) (fast-valid .1 .0))
+
+    pub fast-3 : coefficient-field (word-from part 3) < 1000000
+    fast-3 = rw (word-is part 3) (low-coefficient (getD part 3 0) (fast-valid .1 .1))
+
+    pub fast-read : {m d q : Figure} → m ≡ figure-of (quantity (word-from part 1)) → d ≡ figure-of (quantity (word-from part 2))
+        → q ≡ figure-of (quantity (word-from part 3)) → FastRead ((transition-at part) .manner) m d q
+    fast-read a b c = record {
+      mean = quantity (getD part 1 0);
+      deviation = quantity (getD part 2 0);
+      probability = quantity (getD part 3 0);
+      manner = fast-at part test;
+      mean-valid = fast-valid .0;
+      deviation-valid = fast-valid .1 .0;
+      probability-valid = fast-valid .1 .1;
+      mean-is = rw (word-is part 1) at a;
+      deviation-is = rw (word-is part 2) at b;
+      probability-is = rw (word-is part 3) at c;
+    }
+
+  module _ (test : eqb (kind (getD part 0 0)) 7 ≡ false) where
+    slow-valid : InRange 1 20 (quantity (getD part 1 0))
+    unfolding ValidManner
+    slow-valid = rw (slow-at part test) at first-valid
+
+    pub slow-1 : coefficient-field (word-from part 1) < 1000000
+    slow-1 = rw (word-is part 1) (low-coefficient (getD part 1 0) slow-valid)
+
+    pub slow-read : {r : Figure} → r ≡ figure-of (quantity (word-from part 1)) → SlowRead ((transition-at part) .manner) r
+    slow-read a = record { rate = quantity (getD part 1 0); manner = slow-at part test; valid = slow-valid; rate-is = rw (word-is part 1) at a }
+
+-- ---- they are in range
+
+module _ {x : Manner} {m d q : Figure} (f : FastRead x m d q) where
+  pub mean-sized : Sized 9 40 m
+  mean-sized = rw (f .mean-is) (quantity-sized (f .mean-valid))
+
+  pub deviation-sized : Sized 9 40 d
+  deviation-sized = rw (f .deviation-is) (quantity-sized (f .deviation-valid))
+
+  pub probability-sized : Sized 9 40 q
+  probability-sized = rw (f .probability-is) (sized-≤ (lit≤ tt) (quantity-sized (f .probability-valid)))
+
+pub rate-sized : {x : Manner} {r : Figure} → SlowRead x r → Sized 9 40 r
+rate-sized f = rw (f .rate-is) (quantity-sized (f .valid))
