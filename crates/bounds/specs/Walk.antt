@@ -1,5 +1,5 @@
 -- What the walk is handed, keeps and hands back. Assumes nothing: these are definitions.
-use Prim.Native.Nat.{ℕ, zero, suc, _+_, _≤_, _<_}
+use Prim.Native.Nat.{ℕ, zero, suc, _+_, _*_, _≤_, _<_}
 use mathlib.Core.Path.{_≡_}
 use mathlib.Core.Bool.{Bool, true, false}
 use mathlib.Core.List.{List, [], _∷_}
@@ -7,6 +7,7 @@ use lib.ListN.{length, getD}
 use lib.Dec.{leb, ltb, eqb}
 use Rattle.figure.specs.declared.Figure.{Figure}
 use Rattle.figure.specs.Rounding.{none}
+use Rattle.figure.specs.Operands.{Sized}
 use Rattle.figure.specs.Operations.{times-up, divided-up, of-whole, at-or-below}
 use Rattle.figure.proofs.Gathered.{Gathered}
 use Rattle.model.specs.Model.{Transition, Net, Limits, Model, exits, has-fast}
@@ -26,8 +27,9 @@ use Rattle.bounds.specs.declared.walk.Task.{Task}
 use Rattle.bounds.specs.declared.walk.Tip.{Tip}
 use Rattle.bounds.specs.declared.walk.Totals.{Totals}
 use Rattle.bounds.specs.declared.walk.Cache.{Cache}
-use Rattle.bounds.specs.Tables.{Indexes, Tabled, described, net-of}
-use Rattle.bounds.specs.Deaths.{path-of, Known, SharedBy, SharedSized}
+use Rattle.bounds.specs.declared.walk.Exit.{Exit}
+use Rattle.bounds.specs.Tables.{Indexes, Classed, SharesHold, Tabled, class-number, described, net-of}
+use Rattle.bounds.specs.Deaths.{path-of, Known, step-class, SharedBy, SharedSized}
 
 -- the definition's outcome for each case of the code's
 abbrev pub outcome-of : Coded → Outcome
@@ -103,6 +105,26 @@ slow-grains net s = elim (has-fast (exits net s)) [ true ↦ class3-grains net s
 pub record Cached (net : Net) (p : Path) (s : ℕ) (c : Cache) : Type 0 where
   pub shared-is : c .known ≡ true → SharedBy net p (slow-class net s) (slow-grains net s) s (c .shared)
   pub sized : SharedSized (c .shared)
+
+-- ---- one exit
+
+-- What exit i of the tip's state is read from: the words, the slot and the tables are those of the model, and U may be taken one step further.
+pub record ExitReady (ws slots places shares means : List ℕ) (time : Figure) (tip : Tip) (i : ℕ) : Type 0 where
+  pub classed : Classed ws places means
+  pub shares-are : SharesHold (net-of ws) (length (net-of ws .table)) shares
+  pub time-is : time ≡ mission-time (net-of ws)
+  pub few : i < 16
+  pub index : getD slots (tip .state * 16 + i) 0 < length (net-of ws .table)
+  pub leaves : (transition (net-of ws) (getD slots (tip .state * 16 + i) 0)) .from ≡ tip .state
+  pub upper : Sized 9 20000 (tip .upper)
+  pub ones : tip .ones < 24
+  pub room : tip .len < 24
+
+-- an exit as it was read: its index stands in the slot, and its class and the tip beyond it are those of its transition
+pub record ExitOf (net : Net) (slots : List ℕ) (tip : Tip) (i : ℕ) (r : Exit) : Type 0 where
+  pub index-is : r .index ≡ getD slots (tip .state * 16 + i) 0
+  pub class-is : r .class ≡ class-number (step-class net (r .index))
+  pub tip-is : r .tip ≡ tip-after net (transition net (r .index)) tip
 
 -- ---- the walk
 

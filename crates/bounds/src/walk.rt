@@ -15,7 +15,7 @@ ghost use Rattle.tree.proofs.Carried.{carried-visits};
 ghost use Rattle.bounds.specs.Tables.{Tabled, described, net-of};
 ghost use Rattle.bounds.specs.Deaths.{path-of, LastStep};
 ghost use Rattle.bounds.specs.Walk as walks;
-ghost use Rattle.bounds.specs.Walk.{Cached, Counted, Ready, Ends, totals-of};
+ghost use Rattle.bounds.specs.Walk.{Cached, Counted, Ends, ExitOf, ExitReady, Ready, totals-of};
 use crate::lower::Shared;
 use crate::lower::class_of;
 use crate::lower::lower_of;
@@ -78,6 +78,13 @@ pub struct Died {
 pub struct Noted {
     pub totals: Totals,
     pub cache: Cache,
+}
+
+// An exit of a state: the index of its transition, its class and the tip beyond it.
+pub struct Exit {
+    pub index: u16,
+    pub class: u8,
+    pub tip: Tip,
 }
 
 // U one step further: by a step of the class `class`, the k-th of class 1 if it is of class 1, with its share, h of the state that it leaves and T.
@@ -366,6 +373,34 @@ fn next_tip(tip: Tip, class: u8, to: usize, share: Figure, mean: Figure, time: F
     }
 }
 
+// The exit i of the tip's state: its index stands in the slots, its kind and its target in its word.
+fn exit_at(
+    words: &[u32],
+    slots: &[u16; 16016],
+    places: &[u16; 4000],
+    shares: &[u64; 4000],
+    means: &[u64; 1001],
+    time: Figure,
+    tip: Tip,
+    i: usize,
+) -> Exit
+    requires { ⌜ ExitReady (now words) (now slots) (now places) (now shares) (now means) time tip i ⌝ }
+    ensures { λ r. ⌜ ExitOf (net-of (now (words .entry))) (now (slots .entry)) tip i r ⌝ }
+{
+    let s = tip.state;
+    let x = slots[s * 16 + i];
+    let j = wide(x);
+    let w = words[wide(places[j])];
+    let mean = means[s];
+    let class = class_of(is_fast(w), mean);
+    let next = next_tip(tip, class, target(w), unpack(shares[j]), unpack(mean), time);
+    Exit {
+        index: x,
+        class,
+        tip: next,
+    }
+}
+
 // Walks every exit of the tip's state. `left` is the number of steps that the path may still take. It hands back the totals with the steps taken,
 // and stops at the first step past the budget.
 pub(crate) fn walk(
@@ -397,22 +432,18 @@ pub(crate) fn walk(
     let level = task.level;
     let s = tip.state;
     let len = tip.len;
-    let mean = means[s];
-    let h = unpack(mean);
     let count = small(counts[s]);
     let mut i: usize = 0;
     while i < count {
         if sums.steps == task.budget {
             return with_step(sums);
         }
-        let x = slots[s * 16 + i];
-        let j = wide(x);
-        let w = words[wide(places[j])];
-        let class = class_of(is_fast(w), mean);
-        let to = target(w);
-        let next = next_tip(tip, class, to, unpack(shares[j]), h, time);
-        let before = entered[to];
+        let exit = exit_at(words, slots, places, shares, means, time, tip, i);
+        let x = exit.index;
+        let next = exit.tip;
         let upper = next.upper;
+        let to = next.state;
+        let before = entered[to];
         let o = judge(counts[to], before, left - 1, upper, level, task.entries);
         let noted = note(
             words,
@@ -425,8 +456,8 @@ pub(crate) fn walk(
             time,
             tip,
             path,
-            class,
-            j,
+            exit.class,
+            wide(x),
             upper,
             o,
             sums,

@@ -1,0 +1,52 @@
+-- One visit noted in the totals, by what becomes of its path. Assumes nothing.
+use mathlib.Core.Path.{_≡_, refl, sym, ap, _∙_}
+use mathlib.Core.Bool.{true, false, true≢false}
+use mathlib.Core.List.{List, _∷_}
+use Prim.Native.Nat.{ℕ}
+use native.Mathlib.Omega.{arith}
+use lib.Dec.{lit≤}
+use Rattle.figure.specs.declared.Figure.{Figure}
+use Rattle.figure.specs.Operands.{Sized}
+use Rattle.figure.proofs.Sized.{sized-≤}
+use Rattle.model.specs.Model.{Model}
+use Rattle.model.specs.Index.{transition}
+use Rattle.model.proofs.Valid.{Each, Valid}
+use Rattle.tree.specs.Lower.{lower}
+use Rattle.tree.specs.Tree.{Outcome, death, entered-too-often, step-limit, low-level, continued, is-death, is-continued}
+use Rattle.tree.proofs.Outcomes.{is-death-true, is-continued-true}
+use Rattle.tree.proofs.Ranges.{lower-sized}
+use Rattle.tree.proofs.Tally.{Totals, with-step, with-cut, with-death, noted}
+use Rattle.bounds.specs.Deaths.{path-of, LastStep}
+use Rattle.bounds.proofs.Classes.{step-valid}
+use Rattle.bounds.proofs.PathLowers.{path-length, path-valid}
+
+-- ---- the totals r are those with this path, of the lower l and the upper u
+
+module _ (a : Totals) {r : Totals} (l u : Figure) (o : Outcome) where
+  pub note-death : {f : Figure} → r ≡ with-death a f u → f ≡ l → is-death o ≡ true → r ≡ noted a o l u
+  unfolding noted
+  note-death e is d = e ∙ ap (λ x. with-death a x u) is ∙ sym (ap (λ x. noted a x l u) (is-death-true o d))
+
+  pub note-step : r ≡ with-step a → is-continued o ≡ true → r ≡ noted a o l u
+  unfolding noted
+  note-step e c = e ∙ sym (ap (λ x. noted a x l u) (is-continued-true o c))
+
+  pub note-cut : r ≡ with-cut a u → is-death o ≡ false → is-continued o ≡ false → r ≡ noted a o l u
+  unfolding noted
+  note-cut e d c = go o d c
+    where
+      go : (x : Outcome) → is-death x ≡ false → is-continued x ≡ false → r ≡ noted a x l u
+      go death d c = absurd (true≢false d)
+      go entered-too-often d c = e
+      go step-limit d c = e
+      go low-level d c = e
+      go continued d c = absurd (true≢false c)
+
+-- ---- the lower of a path with its last step is in range
+
+pub last-lower : {m : Model} (valid : Valid m) {l : List ℕ} {d k x s j : ℕ} → LastStep (m .net) l d k x s j → {f : Figure}
+    → f ≡ lower (m .net) (transition (m .net) j ∷ path-of (m .net) l d) → Sized 9 35000 f
+unfolding Each
+last-lower {m} valid {l} {d} {j = j} h e =
+    rw e (sized-≤ (lit≤ tt) (lower-sized valid (transition (m .net) j ∷ path-of (m .net) l d) (omega (arith, path-length (m .net) l d, h .room))
+    ((step-valid valid (h .index)) .manner, path-valid valid l d (h .known))))
