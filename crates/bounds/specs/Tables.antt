@@ -41,6 +41,11 @@ pub record Indexes (ws slots counts places : List ℕ) : Type 0 where
   pub valid : Valid (described ws)
   pub index : Indexed (described ws) ws slots counts places
 
+-- the sum of a list's numbers from place 1 to n
+unfoldable pub sum-to : List ℕ → ℕ → ℕ
+sum-to l zero = 0
+sum-to l (suc n) = sum-to l n + getD l (suc n) 0
+
 -- ---- the sums of a state
 
 -- E, h, h' and H with one exit more
