@@ -18,7 +18,7 @@ use Rattle.model.specs.Words.{kind, coefficient-field, quantity}
 use Rattle.model.specs.Index.{transition-at, word-count, Stands}
 use Rattle.model.proofs.Valid.{InRange, ValidManner}
 use Rattle.model.proofs.Steps.{part-from}
-use Rattle.model.proofs.Slots.{fast-at, slow-at, stands-inside, stands-inside-fast}
+use Rattle.model.proofs.Slots.{fast-at, slow-at, stands-inside, stands-inside-fast, stands-fast}
 use Rattle.tree.specs.States.{figure-of}
 use Rattle.tree.proofs.Ranges.{quantity-sized}
 use Rattle.bounds.specs.Tables.{StandsFirst}
@@ -69,6 +69,10 @@ low-coefficient w h = omega (arith, h .high)
 module _ {part : List ℕ} (first : StandsFirst part) where
   first-valid : ValidManner ((transition-at part) .manner)
   first-valid = rw (first .stands .reads) (first .valid)
+
+  -- whether it is fast, by its word
+  pub first-fast : is-fast ((transition-at part) .manner) ≡ eqb (kind (getD part 0 0)) 7
+  first-fast = ap (λ (u : Transition). is-fast (u .manner)) (first .stands .reads) ∙ stands-fast (first .stands)
 
   pub first-long : 1 < length part
   first-long = stands-inside (first .stands)

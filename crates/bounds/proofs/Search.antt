@@ -17,7 +17,7 @@ use Rattle.bounds.specs.Roots.{exponent, Ceiling, Below}
 
 -- ---- cubes and squares of numbers below 1,000,000
 
-square-is : (n : ℕ) → n * n ≡ n ^ 2
+pub square-is : (n : ℕ) → n * n ≡ n ^ 2
 square-is n = sym (pow-suc n 1 ∙ rw (pow-suc n 0, pow-zero) (omega arith))
 
 cube-is : (n : ℕ) → n * n * n ≡ n ^ 3

@@ -1,7 +1,7 @@
 // What is summed over the exits of a state, once for each state.
 ghost use mathlib.Core.Path.{_≡_};
 ghost use Prim.Native.Nat.{_<_, _≤_};
-ghost use lib.ListN.{getD};
+ghost use lib.ListN.{length, getD};
 ghost use Rattle.figure.specs.Operands.{Sized};
 ghost use Rattle.figure.specs.Operations as ops;
 ghost use Rattle.model.specs.Words.{coefficient-field, quantity};
@@ -125,6 +125,7 @@ pub(crate) fn fill_states(
     moments: &mut [u64; 1001],
 )
     requires { ⌜ Indexes (now words) (now slots) (now counts) (now places) × (states ≡ described (now words) .states) ⌝ }
+    requires { ⌜ (length (now rates) ≡ 1001) × (length (now means) ≡ 1001) × (length (now floors) ≡ 1001) × (length (now moments) ≡ 1001) ⌝ }
     ensures { λ _. ⌜ StateTables (net-of (now (words .entry))) states (now (rates .exit)) (now (means .exit)) (now (floors .exit)) (now (moments .exit)) ⌝ }
 {
     let mut s = 1;

@@ -52,7 +52,7 @@ fn class3_loss(rate: Figure, moment: Figure, time: Figure, n: u64) -> Figure
 // Class 2: a fast exit of a state whose E is `rate`; part begins at the transition's word.
 fn class2_step(part: &[u32], rate: Figure, time: Figure) -> Step
     requires { ⌜ StandsFirst (now part) × (is-fast (transition-at (now part) .manner) ≡ true) ⌝ }
-    requires { ⌜ Sized 9 1000 rate × Sized 9 100 time × (0 < time .digits) ⌝ }
+    requires { ⌜ Sized 9 500 rate × Sized 9 40 time × (0 < time .digits) ⌝ }
     ensures { λ r. ⌜ r ≡ by.class2-step-of rate time (transition-at (now (part .entry)) .manner) ⌝ }
 {
     let m = figure_at(&part[1..]);
@@ -77,7 +77,7 @@ fn class2_step(part: &[u32], rate: Figure, time: Figure) -> Step
 // Class 3: a slow exit of a state with E, h' and H.
 fn class3_step(part: &[u32], rate: Figure, mean: Figure, moment: Figure, time: Figure) -> Step
     requires { ⌜ StandsFirst (now part) × (is-fast (transition-at (now part) .manner) ≡ false) ⌝ }
-    requires { ⌜ Sized 9 1000 rate × Sized 9 1000 mean × Sized 9 1000 moment × Sized 9 100 time ⌝ }
+    requires { ⌜ Sized 9 500 rate × Sized 9 500 mean × Sized 9 500 moment × Sized 9 40 time ⌝ }
     requires { ⌜ (0 < mean .digits) × (0 < time .digits) ⌝ }
     ensures { λ r. ⌜ r ≡ by.class3-step-of rate mean moment time (transition-at (now (part .entry)) .manner) ⌝ }
 {
@@ -140,6 +140,7 @@ pub(crate) fn fill_steps(
     factors: &mut [u64; 4000],
 )
     requires { ⌜ StepReady (now words) (now places) (now rates) (now floors) (now moments) time × (count ≡ length (net-of (now words) .table)) ⌝ }
+    requires { ⌜ (length (now shares) ≡ 4000) × (length (now grains) ≡ 4000) × (length (now factors) ≡ 4000) ⌝ }
     ensures { λ _. ⌜ StepTables (net-of (now (words .entry))) count (now (shares .exit)) (now (grains .exit)) (now (factors .exit)) ⌝ }
 {
     let mut j = 0;

@@ -27,9 +27,11 @@ loop-less : tie.Need-loop-less Inv-loop μ-loop
 loop-less c = omega arith
 
 loop-again : tie.Need-loop-again Inv-loop μ-loop
-loop-again c =
-    (omega arith, ⊎-elim (λ w. below-more (w .3) (w .0 .taken) (w .1 .ensures) (w .2 .taken))
-    (⊎-elim (λ w. below-same (w .3) (c .before .before .loop .inv .1)) (λ w. below-same (w .1) (c .before .before .loop .inv .1))) (c .if1 .came))
+loop-again c = (
+  omega arith,
+  ⊎-elim (λ w. below-more (w .3) (w .0 .taken) (w .1 .ensures) (w .2 .taken))
+      (⊎-elim (λ w. below-same (w .3) (c .before .before .loop .inv .1)) (λ w. below-same (w .1) (c .before .before .loop .inv .1))) (c .if1 .came),
+)
 
 returns : tie.Need-returns Inv-loop μ-loop
 returns c = c .before .loop .inv .1
