@@ -9,14 +9,13 @@ use native.Mathlib.Omega.{arith}
 use lib.ListN.{length, getD}
 use lib.Dec.{eqb}
 use Rattle.figure.specs.declared.Figure.{Figure}
-use Rattle.model.specs.Model.{Manner, slow, fast, Transition, Net, Model, is-fast, exits, has-fast}
+use Rattle.model.specs.Model.{Manner, slow, fast, Model, is-fast}
 use Rattle.model.specs.Words.{kind, from-field}
 use Rattle.model.specs.Index.{Stands, no-transition, transition}
 use Rattle.model.proofs.Valid.{ValidTransition, Valid}
 use Rattle.model.proofs.Members.{each-lookup}
 use Rattle.model.proofs.Slots.{word, stands-from, stands-fast, stands-inside}
 use Rattle.tree.specs.Paths.{Class, class1, class2, class3, class-of, class}
-use Rattle.tree.specs.States.{mean-up}
 use Rattle.tree.proofs.Positive.{mean-up-zero-iff}
 use Rattle.bounds.specs.Tables.{Classed, StatesHold, unpacked, described, net-of, class-number, class-code}
 use Rattle.bounds.specs.Deaths.{step-class}

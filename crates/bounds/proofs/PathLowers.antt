@@ -6,7 +6,6 @@ use mathlib.Core.List.{List, [], _∷_}
 use native.Mathlib.Nat.{le-trans}
 use native.Mathlib.Numerals.{add-one}
 use native.Mathlib.Omega.{arith}
-use lib.Dec.{lit≤}
 use lib.ListN.{length, getD}
 use Rattle.figure.specs.declared.Figure.{Figure}
 use Rattle.figure.specs.Rounding.{none}
@@ -15,15 +14,15 @@ use Rattle.figure.specs.Operations.{times-down, plus-up, divided-down, of-whole
 use Rattle.figure.proofs.Sized.{sized-≤}
 use Rattle.model.specs.Model.{Transition, Net, Model}
 use Rattle.model.specs.Index.{transition}
-use Rattle.model.proofs.Valid.{Each, Valid}
+use Rattle.model.proofs.Valid.{Each, ValidManner, Valid}
 use Rattle.tree.specs.Paths.{Path, Class, class1, class2, class3, class, counts-1, class1-count}
 use Rattle.tree.specs.States.{rate-sum}
 use Rattle.tree.specs.Upper.{share}
 use Rattle.tree.specs.Grains.{grains, grains-in, grain-sum}
-use Rattle.tree.specs.Lower.{class2-factor, class3-factor, lower-step, lower-product, add-rates, path-rate-sum}
-use Rattle.tree.proofs.Least.{grains-of-class, grains-high}
+use Rattle.tree.specs.Lower.{lower-step, lower-product, add-rates, path-rate-sum}
+use Rattle.tree.proofs.Least.{GrainsOf, grains-of-class, grains-high}
 use Rattle.tree.proofs.Positive.{ValidSteps}
-use Rattle.tree.proofs.Ranges.{class1-count-≤, lower-product-sized, path-rate-sum-sized}
+use Rattle.tree.proofs.Ranges.{none-sized, class2-factor-sized, class3-factor-sized, class1-count-≤, lower-product-sized, path-rate-sum-sized}
 use Rattle.tree.proofs.Steps.{class1-count-start, class1-count-more, grain-sum-start, grain-sum-more, lower-product-start, lower-product-more, path-rate-sum-start, path-rate-sum-more}
 use Rattle.bounds.specs.Tables.{GrainsHold, step-factor}
 use Rattle.bounds.specs.Deaths.{path-of, Known, own-grains}
@@ -161,10 +160,16 @@ module _ {net : Net} {t : Figure} {p : Path} {k : ℕ} {f : Figure} (x : Transit
 
 -- ---- ranges, in a valid model
 
-module _ {m : Model} (valid : Valid m) {l : List ℕ} {d : ℕ} (known : Known (m .net) l d) where
-  p : Path
-  p = path-of (m .net) l d
+pub step-factor-sized : {m : Model} (valid : Valid m) (t : Transition) → ValidManner (t .manner) → Sized 9 1200 (step-factor (m .net) (class (m .net) t) t)
+unfolding step-factor
+step-factor-sized {m} valid t w = go (class (m .net) t) (grains-of-class (m .net) [] t)
+  where
+    go : (c : Class) → GrainsOf c (own-grains (m .net) t) → Sized 9 1200 (step-factor (m .net) c t)
+    go class1 r = none-sized 1200
+    go class2 r = class2-factor-sized valid (t .from) (t .manner) w (r .0) (r .1)
+    go class3 r = class3-factor-sized valid (t .from) (t .manner) w (r .0) (r .1)
 
+module _ {m : Model} (valid : Valid m) {l : List ℕ} {d : ℕ} (known : Known (m .net) l d) where
   length-is : length (path-of (m .net) l d) ≡ d
   length-is = path-length (m .net) l d
 

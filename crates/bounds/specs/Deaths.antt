@@ -71,7 +71,8 @@ pub record SharedSized (c : Shared) : Type 0 where
   pub product : Sized 9 30000 (c .product)
   pub last : Sized 9 2000 (c .last)
 
--- the lower of a death path: by the number of its last step's class, with that step's share and factor, the path having k class 1 steps
+-- the lower of a death path: by the number of its last step's class, with that step's share and factor; k is its number among class 1 steps if it
+-- is one
 unfoldable pub death-lower : Shared → ℕ → Figure → Figure → ℕ → Figure
 death-lower c x s f k =
     elim (c .filled) [

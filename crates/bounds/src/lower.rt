@@ -227,9 +227,9 @@ pub(crate) fn shared_by(
     )
 }
 
-// The lower of a death path whose last step is of a class, with its share and factor; the path has k class 1 steps.
+// The lower of a death path whose last step is of a class, with its share and factor; k is its number among class 1 steps if it is one.
 pub(crate) fn lower_of(c: Shared, class: u8, share: Figure, factor: Figure, k: u64) -> Figure
-    requires { ⌜ SharedSized c × Sized 9 2000 share × Sized 9 2000 factor × (k ≤ 24) × (class ≡ 1 → 0 < k) ⌝ }
+    requires { ⌜ SharedSized c × Sized 9 2000 share × Sized 9 2000 factor × (0 < k) × (k ≤ 24) ⌝ }
     ensures { λ r. ⌜ r ≡ death-lower c class share factor k ⌝ }
 {
     if c.filled {

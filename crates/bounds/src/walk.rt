@@ -1,6 +1,6 @@
 // The walk over the cut tree.
 ghost use mathlib.Core.Path.{_≡_};
-ghost use mathlib.Core.List.{_∷_};
+ghost use mathlib.Core.List.{[], _∷_};
 ghost use Prim.Native.Nat.{ℕ, _<_, _≤_};
 ghost use Rattle.figure.specs.Rounding.{IsFigure};
 ghost use Rattle.figure.specs.Operands.{Sized};
@@ -8,12 +8,13 @@ ghost use Rattle.model.specs.Model.{Net};
 ghost use Rattle.model.specs.Index.{transition};
 ghost use Rattle.tree.specs.Paths.{Path};
 ghost use Rattle.tree.specs.States.{mission-time};
+ghost use Rattle.tree.specs.Grains as goal;
 ghost use Rattle.tree.specs.Lower as bound;
 ghost use Rattle.tree.specs.Tree as tree;
 ghost use Rattle.tree.proofs.Tally as running;
 ghost use Rattle.tree.proofs.Carried.{carried-visits};
 ghost use Rattle.bounds.specs.Tables.{Tabled, described, net-of};
-ghost use Rattle.bounds.specs.Deaths.{path-of, LastStep};
+ghost use Rattle.bounds.specs.Deaths.{path-of, LastStep, SharedBy, SharedSized, step-class};
 ghost use Rattle.bounds.specs.Walk as walks;
 ghost use Rattle.bounds.specs.Walk.{Cached, Counted, Ends, ExitOf, ExitReady, Ready, totals-of};
 use crate::lower::Shared;
@@ -206,8 +207,56 @@ fn with_step(t: Totals) -> Totals
     }
 }
 
-// The lower of a death path: its last step is the transition j of class `class` from the state s, after the path of the first `len` entries of
-// `path`, which has k class 1 steps. What a slow exit's deaths share is worked out for the first of them and kept.
+// What a death shares, from the cache where its last step is slow and the cache is known. The last step is the transition j of class `class` from
+// the state s, after the path of the first `len` entries of `path`, which has k class 1 steps.
+fn shared_for(
+    words: &[u32],
+    places: &[u16; 4000],
+    shares: &[u64; 4000],
+    grains: &[u32; 4000],
+    factors: &[u64; 4000],
+    rates: &[u64; 1001],
+    means: &[u64; 1001],
+    time: Figure,
+    path: [u16; 24],
+    len: usize,
+    k: u64,
+    class: u8,
+    s: usize,
+    j: usize,
+    cache: Cache,
+) -> Shared
+    requires { ⌜ Tabled (now words) (now places) (now shares) (now grains) (now factors) (now rates) (now means) ⌝ }
+    requires { ⌜ LastStep (net-of (now words)) path len k class s j × (time ≡ mission-time (net-of (now words))) ⌝ }
+    requires { ⌜ Cached (net-of (now words)) (path-of (net-of (now words)) path len) s cache ⌝ }
+    ensures { λ r. ⌜ SharedBy (net-of (now (words .entry))) (path-of (net-of (now (words .entry))) path len) (step-class (net-of (now (words .entry))) j) (goal.grains (net-of (now (words .entry))) [] (transition (net-of (now (words .entry))) j)) s r ⌝ }
+    ensures { λ r. ⌜ SharedSized r ⌝ }
+{
+    if class != 2 {
+        if cache.known {
+            let shared = cache.shared;
+            return shared;
+        }
+    }
+    shared_by(
+        words,
+        places,
+        shares,
+        grains,
+        factors,
+        rates,
+        means,
+        time,
+        path,
+        len,
+        k,
+        class,
+        s,
+        j,
+    )
+}
+
+// The lower of a death path with that last step, and the cache after it: what a slow exit's deaths share is worked out for the first of them and kept.
 fn death(
     words: &[u32],
     places: &[u16; 4000],
@@ -231,40 +280,32 @@ fn death(
     ensures { λ r. ⌜ r .lower ≡ bound.lower (net-of (now (words .entry))) (transition (net-of (now (words .entry))) j ∷ path-of (net-of (now (words .entry))) path len) ⌝ }
     ensures { λ r. ⌜ Cached (net-of (now (words .entry))) (path-of (net-of (now (words .entry))) path len) s (r .cache) ⌝ }
 {
-    let mut shared = cache.shared;
-    let known = cache.known;
-    let slow = class != 2;
-    if !(known && slow) {
-        shared = shared_by(
-            words,
-            places,
-            shares,
-            grains,
-            factors,
-            rates,
-            means,
-            time,
-            path,
-            len,
-            k,
-            class,
-            s,
-            j,
-        );
+    let shared = shared_for(
+        words,
+        places,
+        shares,
+        grains,
+        factors,
+        rates,
+        means,
+        time,
+        path,
+        len,
+        k,
+        class,
+        s,
+        j,
+        cache,
+    );
+    let lower = lower_of(shared, class, unpack(shares[j]), unpack(factors[j]), k + 1);
+    if class == 2 {
+        return Died { lower, cache };
     }
-    let mut ones = k;
-    if class == 1 {
-        ones = k + 1;
-    }
-    let lower = lower_of(shared, class, unpack(shares[j]), unpack(factors[j]), ones);
-    if slow {
-        let kept = Cache {
-            known: true,
-            shared,
-        };
-        return Died { lower, cache: kept };
-    }
-    Died { lower, cache }
+    let kept = Cache {
+        known: true,
+        shared,
+    };
+    Died { lower, cache: kept }
 }
 
 // One visit noted: of the path at `tip` with the transition j of class `class` as its last step, whose upper is `upper`; `path` has the tip's path.

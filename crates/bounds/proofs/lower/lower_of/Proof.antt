@@ -32,8 +32,8 @@ divided-down-requires c κs =
     let p = c .before .before .before .before .before .before .before .before .pre in (
       rw (c .before .times-down2 .ensures, c .before .before .times-down .ensures)
           (sized-≤ (lit≤ tt) (times-down-sized (times-down-sized (p .0 .product) (p .1)) (p .0 .time))),
-      rw (c .of-whole .ensures) (sized-≤ (lit≤ tt) (count-sized _ (le-trans (p .3) (lit≤ tt)))),
-      rw (c .of-whole .ensures) (of-whole-above _ (p .4 (c .before .before .before .if2 .taken))),
+      rw (c .of-whole .ensures) (sized-≤ (lit≤ tt) (count-sized _ (le-trans (p .4) (lit≤ tt)))),
+      rw (c .of-whole .ensures) (of-whole-above _ (p .3)),
     )
 
 times-down-requires-3 : tie.Need-times-down-requires-3
@@ -41,7 +41,7 @@ times-down-requires-3 c κs =
     let p = c .before .before .before .before .before .before .before .before .before .pre in (
       rw (c .divided-down .ensures, c .before .of-whole .ensures, c .before .before .times-down2 .ensures, c .before .before .before .times-down .ensures)
           (sized-≤ (lit≤ tt) (divided-down-sized (times-down-sized (times-down-sized (p .0 .product) (p .1)) (p .0 .time))
-          (count-sized _ (le-trans (p .3) (lit≤ tt))) (of-whole-above _ (p .4 (c .before .before .before .before .if2 .taken))))),
+          (count-sized _ (le-trans (p .4) (lit≤ tt))) (of-whole-above _ (p .3)))),
       sized-≤ (lit≤ tt) (p .0 .last),
     )
 

@@ -1,19 +1,20 @@
 -- `bounds::lower::spent_on` meets its contract. The loop's invariant: N' and A are those of the path so far. Assumes nothing.
-use Prim.Native.Nat.{_<_, _-_, _≤_}
-use mathlib.Core.Logic.{⊎-elim}
+use Prim.Native.Nat.{_-_, _≤_, _<_}
 use mathlib.Core.Path.{_≡_, sym, _∙_}
+use mathlib.Core.Logic.{⊎-elim}
 use native.Mathlib.Omega.{arith}
 use lib.Dec.{lit≤}
-use lib.ListN.{length}
+use lib.ListN.{length, getD}
 use borrow.Author.Needs.{needs}
 use Rattle.figure.proofs.Sized.{sized-≤}
+use Rattle.model.specs.Model.{Net}
 use Rattle.model.specs.Index.{transition}
-use Rattle.tree.proofs.Ranges.{rate-sum-sized}
 use Rattle.tree.specs.States.{rate-sum}
-use Rattle.bounds.specs.Deaths.{Known, step-class, path-of}
-use Rattle.bounds.specs.Tables.{Classed, class-number, net-of}
-use Rattle.bounds.proofs.PathLowers.{grains-at-high, path-length, path-none, path-more, known-less, spent-start, spent-one, spent-other, spent-high, spent-sized, SpentOn}
-use Rattle.bounds.proofs.Classes.{left-holds, index-small, place-inside, left-small, left-class, number-one, number-other}
+use Rattle.tree.proofs.Ranges.{rate-sum-sized}
+use Rattle.bounds.specs.Tables.{Classed, net-of, class-number}
+use Rattle.bounds.specs.Deaths.{path-of, Known, step-class}
+use Rattle.bounds.proofs.Classes.{index-small, place-inside, left-small, left-holds, left-class, number-one, number-other}
+use Rattle.bounds.proofs.PathLowers.{path-none, path-more, path-length, known-less, SpentOn, spent-start, spent-one, spent-other, spent-high, spent-sized, grains-at-high}
 use Rattle.bounds.proofs.lower.spent_on.Statement.{statement}
 use Rattle.bounds.proofs.lower.spent_on.Tie as tie
 
@@ -23,35 +24,63 @@ Inv-loop words places grains rates means len path n₀ a₀ i₀ n a i = (i ≤ 
 abbrev μ-loop : tie.MeasureT-loop
 μ-loop words places grains rates means len path n₀ a₀ i₀ n a i = len - i
 
--- ---- the step that the loop is at
+-- ---- a turn of the loop
 
-classed : (c : tie.In-loop Inv-loop μ-loop) → Classed (c .before .before .before .before .args .words .now) (c .before .before .before .before .args .places .now) (c .before .before .before .before .args .means .now)
-classed c = c .before .before .before .before .pre .0 .0
+-- the function's entry
+abbrev start : tie.In-loop Inv-loop μ-loop → tie.Start Inv-loop μ-loop
+start c = c .before .before .before .before
 
-known : (c : tie.In-loop Inv-loop μ-loop) → Known (net-of (c .before .before .before .before .args .words .now)) (c .before .before .before .before .args .t6) (c .before .before .before .before .args .len)
-known c = c .before .before .before .before .pre .0 .1
+abbrev net : tie.In-loop Inv-loop μ-loop → Net
+net c = net-of (start c .args .words .now)
 
-index : (c : tie.After-wide Inv-loop μ-loop) → c .wide .result < length (net-of (c .before .before .before .before .before .args .words .now) .table)
+classed : (c : tie.In-loop Inv-loop μ-loop) → Classed (start c .args .words .now) (start c .args .places .now) (start c .args .means .now)
+classed c = start c .pre .0 .0
+
+known : (c : tie.In-loop Inv-loop μ-loop) → Known (net c) (start c .args .t6) (start c .args .len)
+known c = start c .pre .0 .1
+
+so-far-short : (c : tie.In-loop Inv-loop μ-loop) → length (path-of (net c) (start c .args .t6) (c .before .loop .i)) ≤ 24
+so-far-short c = omega (arith, path-length (net c) (start c .args .t6) (c .before .loop .i), known c .short, c .before .loop .inv .0)
+
+-- ---- the step that the turn is at: its index, its class, its grains and E of the state that it leaves
+
+index : (c : tie.After-wide Inv-loop μ-loop) → c .wide .result < length (net (c .before) .table)
 index c = rw (c .wide .ensures .0) (known (c .before) .inside _ (c .before .loop-test .taken))
 
-origin-at-small : (c : tie.After-origin Inv-loop μ-loop) → c .origin .result < 1001
-origin-at-small c =
-    left-small (classed (c .before .before .before .before .before)) (index (c .before .before .before .before)) (c .before .before .wide2 .ensures .0) (c .origin .ensures .0)
+origin-small : (c : tie.After-origin Inv-loop μ-loop) → c .origin .result < 1001
+origin-small c =
+    let at = c .before .before in
+    let j = at .before .before in
+    left-small (classed (j .before)) (index j) (at .wide2 .ensures .0) (c .origin .ensures .0)
 
-class-at : (c : tie.After-class-of Inv-loop μ-loop)
-    → c .class-of .result ≡ class-number (step-class (net-of (c .before .before .before .before .before .before .before .before .before .before .before .before .args .words .now)) (c .before .before .before .before .before .before .before .wide .result))
+-- from where the class is known
+abbrev index-place : tie.After-class-of Inv-loop μ-loop → tie.After-wide Inv-loop μ-loop
+index-place c = c .before .before .before .before .before .before .before
+
+abbrev turn : tie.After-class-of Inv-loop μ-loop → tie.In-loop Inv-loop μ-loop
+turn c = index-place c .before
+
+class-at : (c : tie.After-class-of Inv-loop μ-loop) → c .class-of .result ≡ class-number (step-class (net (turn c)) (index-place c .wide .result))
 class-at c =
-    left-class (classed (c .before .before .before .before .before .before .before .before)) (index (c .before .before .before .before .before .before .before)) (c .before .before .before .before .before .wide2 .ensures .0) (c .before .before .before .origin .ensures .0)
+    let state = c .before .before .before in
+    left-class (classed (turn c)) (index (index-place c)) (state .before .before .wide2 .ensures .0) (state .origin .ensures .0)
     (c .before .before .is-fast .ensures) (c .class-of .ensures)
 
-rate-at : (c : tie.After-unpack Inv-loop μ-loop)
-    → c .unpack .result ≡ rate-sum (net-of (c .before .before .before .before .before .before .before .before .before .before .before .before .before .before .before .args .words .now)) ((transition (net-of (c .before .before .before .before .before .before .before .before .before .before .before .before .before .before .before .args .words .now)) (c .before .before .before .before .before .before .before .before .before .before .wide .result)) .from)
-rate-at c =
-    let s = c .before .before .before .before .before .before .before .before .before .before .before .before .before .before .before in
-    left-holds (classed (c .before .before .before .before .before .before .before .before .before .before .before)) (index (c .before .before .before .before .before .before .before .before .before .before)) (c .before .before .before .before .before .before .before .before .wide2 .ensures .0) (c .before .before .before .before .before .before .origin .ensures .0) (rate-sum (net-of (s .args .words .now))) (s .args .rates .now) (s .pre .1 .1) (c .unpack .ensures)
+grains-high : (c : tie.After-n Inv-loop μ-loop)
+    → let d = c .before .before in getD (start (turn d) .args .grains .now) (index-place d .wide .result) 0 ≤ 1000000
+grains-high c =
+    let d = c .before .before in
+    grains-at-high (net (turn d)) (start (turn d) .args .grains .now) (start (turn d) .pre .1 .0) (index (index-place d))
 
-at-most-24 : (c : tie.In-loop Inv-loop μ-loop) → length (path-of (net-of (c .before .before .before .before .args .words .now)) (c .before .before .before .before .args .t6) (c .before .loop .i)) ≤ 24
-at-most-24 c = omega (arith, path-length (net-of (c .before .before .before .before .args .words .now)) (c .before .before .before .before .args .t6) (c .before .loop .i), known c .short, c .before .loop .inv .0)
+rate-at : (c : tie.After-unpack Inv-loop μ-loop)
+    → let d = c .before .before .before in c .unpack .result ≡ rate-sum (net (turn d)) ((transition (net (turn d)) (index-place d .wide .result)) .from)
+rate-at c =
+    let d = c .before .before .before in
+    let state = d .before .before .before in
+    left-holds (classed (turn d)) (index (index-place d)) (state .before .before .wide2 .ensures .0) (state .origin .ensures .0)
+    (rate-sum (net (turn d))) (start (turn d) .args .rates .now) (start (turn d) .pre .1 .1) (c .unpack .ensures)
+
+-- ---- the needs
 
 zero-requires : tie.Need-zero-requires Inv-loop μ-loop
 zero-requires c κs = search needs
@@ -60,10 +89,10 @@ loop-holds : tie.Need-loop-holds Inv-loop μ-loop
 loop-holds c = (omega arith, rw (path-none, c .zero .ensures) (spent-start _))
 
 mul-wide : tie.Need-mul-wide Inv-loop μ-loop
-mul-wide c = omega (arith, (known c) .short)
+mul-wide c = omega (arith, known c .short)
 
 array-read-wide : tie.Need-array-read-wide Inv-loop μ-loop
-array-read-wide c = omega (arith, (known c) .short)
+array-read-wide c = omega (arith, known c .short)
 
 wide-requires : tie.Need-wide-requires Inv-loop μ-loop
 wide-requires c κs = search needs
@@ -81,7 +110,9 @@ mul-w : tie.Need-mul-w Inv-loop μ-loop
 mul-w c = omega arith
 
 shared-slice-read-w : tie.Need-shared-slice-read-w Inv-loop μ-loop
-shared-slice-read-w c = rw (c .before .wide2 .ensures .0) (place-inside (classed (c .before .before .before .before)) (index (c .before .before .before)))
+shared-slice-read-w c =
+    let j = c .before .before .before in
+    rw (c .before .wide2 .ensures .0) (place-inside (classed (j .before)) (index j))
 
 origin-requires : tie.Need-origin-requires Inv-loop μ-loop
 origin-requires c κs = search needs
@@ -93,7 +124,7 @@ mul-class-of : tie.Need-mul-class-of Inv-loop μ-loop
 mul-class-of c = omega (arith, c .before .origin .ensures .1)
 
 element-copy-out-class-of : tie.Need-element-copy-out-class-of Inv-loop μ-loop
-element-copy-out-class-of c = origin-at-small (c .before)
+element-copy-out-class-of c = origin-small (c .before)
 
 class-of-requires : tie.Need-class-of-requires Inv-loop μ-loop
 class-of-requires c κs = search needs
@@ -102,56 +133,53 @@ mul-unpack : tie.Need-mul-unpack Inv-loop μ-loop
 mul-unpack c = omega (arith, c .before .before .before .before .origin .ensures .1)
 
 element-copy-out-unpack : tie.Need-element-copy-out-unpack Inv-loop μ-loop
-element-copy-out-unpack c = origin-at-small (c .before .before .before .before)
+element-copy-out-unpack c = origin-small (c .before .before .before .before)
 
 unpack-requires : tie.Need-unpack-requires Inv-loop μ-loop
 unpack-requires c κs = search needs
 
 plus-up-requires : tie.Need-plus-up-requires Inv-loop μ-loop
 plus-up-requires c κs =
-    let loop = c .before .before .before .before .before .before .before .before .before .before .before .before in
-    let s = c .before .before .before .before .before .before .before .before .before .before .before .before .before .before .before in (
-      sized-≤ (lit≤ tt) (spent-sized (s .pre .0 .0 .valid) (known-less _ (loop .loop .inv .0) (s .pre .0 .1)) (loop .loop .inv .1)),
-      rw (rate-at c) (sized-≤ (lit≤ tt) (rate-sum-sized (s .pre .0 .0 .valid) _)),
+    let at = turn (c .before .before .before) in
+    let so-far = at .before .loop .inv in
+    (
+      sized-≤ (lit≤ tt) (spent-sized (classed at .valid) (known-less _ (so-far .0) (known at)) (so-far .1)),
+      rw (rate-at c) (sized-≤ (lit≤ tt) (rate-sum-sized (classed at .valid) _)),
     )
 
 mul-n : tie.Need-mul-n Inv-loop μ-loop
-mul-n c = omega (arith, c .before .before .before .before .before .before .before .before .wide .ensures .1)
+mul-n c = omega (arith, index-place (c .before) .wide .ensures .1)
 
 element-copy-out-n : tie.Need-element-copy-out-n Inv-loop μ-loop
-element-copy-out-n c = index-small (classed (c .before .before .before .before .before .before .before .before .before) .valid) (index (c .before .before .before .before .before .before .before .before))
+element-copy-out-n c = index-small (classed (turn (c .before)) .valid) (index (index-place (c .before)))
 
 cast-n : tie.Need-cast-n Inv-loop μ-loop
-cast-n c =
-    let s = c .before .before .before .before .before .before .before .before .before .before .before .before .before .before in
-    omega (arith, grains-at-high (net-of (s .args .words .now)) (s .args .grains .now) (s .pre .1 .0) (index (c .before .before .before .before .before .before .before .before .before)))
+cast-n c = omega (arith, grains-high c)
 
 add-n : tie.Need-add-n Inv-loop μ-loop
 add-n c =
-    let s = c .before .before .before .before .before .before .before .before .before .before .before .before .before .before in
-    omega (
-      arith,
-      grains-at-high (net-of (s .args .words .now)) (s .args .grains .now) (s .pre .1 .0) (index (c .before .before .before .before .before .before .before .before .before)),
-      spent-high (c .before .before .before .before .before .before .before .before .before .before .before .loop .inv .1) (at-most-24 (c .before .before .before .before .before .before .before .before .before .before)),
-    )
+    let at = turn (c .before .before) in
+    omega (arith, grains-high c, spent-high (at .before .loop .inv .1) (so-far-short at))
 
 add-i : tie.Need-add-i Inv-loop μ-loop
-add-i c = omega (arith, known (c .before .before .before .before .before .before .before .before .before) .short, c .before .before .before .before .before .before .before .before .before .loop-test .taken)
+add-i c = omega (arith, known (turn (c .before)) .short, turn (c .before) .loop-test .taken)
 
 loop-less : tie.Need-loop-less Inv-loop μ-loop
-loop-less c = omega (arith, c .before .before .before .before .before .before .before .before .before .loop-test .taken)
+loop-less c = omega (arith, turn (c .before) .loop-test .taken)
 
 loop-again : tie.Need-loop-again Inv-loop μ-loop
 loop-again c =
-    let s = c .before .before .before .before .before .before .before .before .before .before .before .before .before in
-    let loop = c .before .before .before .before .before .before .before .before .before .before in
-    let j = c .before .before .before .before .before .before .before .before in
-    let more = path-more (net-of (s .args .words .now)) (s .args .t6) (loop .loop .i) (j .wide .ensures .0) in (
-      omega (arith, c .before .before .before .before .before .before .before .before .before .loop-test .taken),
-      rw more (⊎-elim
-          (λ w. rw (w .4, w .5, w .3 .ensures) (spent-one _ (loop .loop .inv .1) (number-one _ (sym (class-at (c .before)) ∙ w .0 .taken))
-          (rate-at (record { before = record { before = record { before = c .before; if1 = w .0 }; unpack-arg = w .1 }; unpack = w .2 }))))
-          (λ w. rw (w .2, w .3) (spent-other _ (loop .loop .inv .1) (number-other _ (λ e. w .0 .left (class-at (c .before) ∙ e))) (s .pre .1 .0 _ (index j))))
+    let d = c .before in
+    let at = turn d in
+    let so-far = at .before .loop .inv .1 in
+    (
+      omega (arith, at .loop-test .taken),
+      rw (path-more (net at) (start at .args .t6) (at .before .loop .i) (index-place d .wide .ensures .0)) (⊎-elim
+          (λ w. rw (w .4, w .5, w .3 .ensures)
+              (spent-one _ so-far (number-one _ (sym (class-at d) ∙ w .0 .taken))
+              (rate-at (record { before = record { before = record { before = d; if1 = w .0 }; unpack-arg = w .1 }; unpack = w .2 }))))
+          (λ w. rw (w .2, w .3)
+              (spent-other _ so-far (number-other _ (λ e. w .0 .left (class-at d ∙ e))) (start at .pre .1 .0 _ (index (index-place d)))))
           (c .if1 .came)),
     )
 
