@@ -139,7 +139,8 @@ module _ {add : Figure → Manner → Figure} (is : AddsFast add) where
   sum-none a [] h = refl
   sum-none a (t ∷ ts) h = go (t .manner) h (λ b k. sum-none b ts k)
     where
-      go : (x : Manner) → (is-fast x || has-fast ts) ≡ false → ((b : Figure) → has-fast ts ≡ false → sum-over add b ts ≡ b) → sum-over add (add a x) ts ≡ a
+      go : (x : Manner) → (is-fast x || has-fast ts) ≡ false → ((b : Figure) → has-fast ts ≡ false → sum-over add b ts ≡ b)
+          → sum-over add (add a x) ts ≡ a
       go (slow r) k below = below (add a (slow r)) k ∙ is .skips a r
       go (fast m d q) k below = absurd (true≢false k)
 

@@ -166,34 +166,32 @@ pub goal3-sized : {moment mean time : Figure} → Sized 9 500 moment → Sized 9
     → Sized 9 1100 (times-ten (divided-up moment (times-down mean time)) (pos 12))
 goal3-sized p q r z = sized-≤ (lit≤ tt) (times-ten-sized (pos 12) (divided-up-sized p (times-down-sized q r) z))
 
--- a number of grains
-pub record GrainCount (n : ℕ) : Type 0 where
-  pub low : 1 ≤ n
-  pub high : n ≤ 1000000
+-- n² of a number of grains
+pub square-sized : {n : ℕ} → n ≤ 1000000 → Sized 9 20 (of-whole (n ^ 2))
+square-sized {n} high = count-sized (n ^ 2) (le-trans (pow-le-pow-left high 2) (lit≤ tt))
 
-pub grain-count-sized : {n : ℕ} → GrainCount n → Sized 9 20 (of-whole n)
-grain-count-sized {n} g = count-sized n (le-trans (g .high) (lit≤ tt))
-
-pub grain-square-sized : {n : ℕ} → GrainCount n → Sized 9 20 (of-whole (n ^ 2))
-grain-square-sized {n} g = count-sized (n ^ 2) (le-trans (pow-le-pow-left (g .high) 2) (lit≤ tt))
+pub grain-count-sized : {n : ℕ} → n ≤ 1000000 → Sized 9 20 (of-whole n)
+grain-count-sized {n} high = count-sized n (le-trans high (lit≤ tt))
 
 -- y of class 2, of E, m, M and T2
-pub loss2-sized : {rate mean moment time2 : Figure} {n : ℕ} → Sized 9 500 rate → Sized 9 40 mean → Sized 9 120 moment → Sized 9 100 time2 → Above time2
-    → GrainCount n → Sized 9 600 (plus-up (times-up rate mean) (times-ten (divided-up moment (times-down (of-whole (n ^ 2)) time2)) (pos 12)))
-loss2-sized {time2 = time2} {n} p q r t z g =
-    sized-≤ (lit≤ tt) (plus-up-sized (times-up-sized p q) (times-ten-sized (pos 12) (divided-up-sized r (times-down-sized (grain-square-sized g) t)
-    (times-down-above (of-whole (n ^ 2)) time2 (of-whole-above (n ^ 2) (one-le-pow 2 n (g .low))) z))))
+pub loss2-sized : {rate mean moment time2 : Figure} {n : ℕ} → Sized 9 500 rate → Sized 9 40 mean → Sized 9 120 moment → Sized 9 100 time2
+    → Above time2 → 1 ≤ n → n ≤ 1000000
+    → Sized 9 600 (plus-up (times-up rate mean) (times-ten (divided-up moment (times-down (of-whole (n ^ 2)) time2)) (pos 12)))
+loss2-sized {time2 = time2} {n} p q r t z low high =
+    sized-≤ (lit≤ tt) (plus-up-sized (times-up-sized p q) (times-ten-sized (pos 12) (divided-up-sized r (times-down-sized (square-sized high) t)
+    (times-down-above (of-whole (n ^ 2)) time2 (of-whole-above (n ^ 2) (one-le-pow 2 n low)) z))))
 
 -- y of class 3, of E, H and T
-pub loss3-sized : {rate moment time : Figure} {n : ℕ} → Sized 9 500 rate → Sized 9 500 moment → Sized 9 40 time → Above time → GrainCount n
+pub loss3-sized : {rate moment time : Figure} {n : ℕ} → Sized 9 500 rate → Sized 9 500 moment → Sized 9 40 time → Above time → 1 ≤ n → n ≤ 1000000
     → Sized 9 1100 (plus-up (divided-up (times-up rate moment) (of-whole 2)) (times-ten (divided-up moment (times-down (of-whole n) time)) (pos 6)))
-loss3-sized {time = time} {n} p q t z g =
+loss3-sized {time = time} {n} p q t z low high =
     sized-≤ (lit≤ tt) (plus-up-sized (divided-up-sized (times-up-sized p q) (count-sized 2 (lit≤ tt)) (of-whole-above 2 (lit≤ tt)))
-    (times-ten-sized (pos 6) (divided-up-sized q (times-down-sized (grain-count-sized g) t)
-    (times-down-above (of-whole n) time (of-whole-above n (g .low)) z))))
+    (times-ten-sized (pos 6) (divided-up-sized q (times-down-sized (grain-count-sized high) t)
+    (times-down-above (of-whole n) time (of-whole-above n low) z))))
 
--- q or rate times a difference
-pub factor-sized : {share cap loss : Figure} → Sized 9 40 share → Sized 9 500 cap → Sized 9 1100 loss → Sized 9 1200 (times-down share (minus-down cap loss))
+-- q or the rate, times 1 or h' less y
+pub factor-sized : {share cap loss : Figure} → Sized 9 40 share → Sized 9 500 cap → Sized 9 1100 loss
+    → Sized 9 1200 (times-down share (minus-down cap loss))
 factor-sized p q r = sized-≤ (lit≤ tt) (times-down-sized p (minus-down-sized q r))
 
 -- ---- the same of a valid model
@@ -205,26 +203,29 @@ module _ {m : Model} (valid : Valid m) where
 
   pub class3-goal-sized : (s : ℕ) → has-fast (exits (m .net) s) ≡ true → Sized 9 1100 (class3-goal (m .net) s)
   unfolding class3-goal
-  class3-goal-sized s h = goal3-sized (moment-sum-sized valid s) (mean-down-sized valid s) (mission-time-sized valid) (mean-time-above valid s h)
+  class3-goal-sized s h =
+      goal3-sized (moment-sum-sized valid s) (mean-down-sized valid s) (mission-time-sized valid) (mean-time-above valid s h)
 
-  pub class2-loss-sized : (s : ℕ) {x d : Quantity} {n : ℕ} → InRange 1 20 x → InRange 0 20 d → GrainCount n → Sized 9 600 (class2-loss (m .net) s x d n)
+  pub class2-loss-sized : (s : ℕ) {x d : Quantity} {n : ℕ} → InRange 1 20 x → InRange 0 20 d → 1 ≤ n → n ≤ 1000000
+      → Sized 9 600 (class2-loss (m .net) s x d n)
   unfolding class2-loss
-  class2-loss-sized s h k g =
-      loss2-sized (rate-sum-sized valid s) (quantity-sized h) (second-moment-sized h k) (time-squared-sized valid) (time-squared-above valid) g
+  class2-loss-sized s h k =
+      loss2-sized (rate-sum-sized valid s) (quantity-sized h) (second-moment-sized h k) (time-squared-sized valid) (time-squared-above valid)
 
-  pub class3-loss-sized : (s : ℕ) {n : ℕ} → GrainCount n → Sized 9 1100 (class3-loss (m .net) s n)
+  pub class3-loss-sized : (s : ℕ) {n : ℕ} → 1 ≤ n → n ≤ 1000000 → Sized 9 1100 (class3-loss (m .net) s n)
   unfolding class3-loss
-  class3-loss-sized s g = loss3-sized (rate-sum-sized valid s) (moment-sum-sized valid s) (mission-time-sized valid) (time-above valid) g
+  class3-loss-sized s = loss3-sized (rate-sum-sized valid s) (moment-sum-sized valid s) (mission-time-sized valid) (time-above valid)
 
-  pub class2-factor-sized : (s : ℕ) (x : Manner) {n : ℕ} → ValidManner x → GrainCount n → Sized 9 1200 (class2-factor (m .net) s x n)
+  pub class2-factor-sized : (s : ℕ) (x : Manner) {n : ℕ} → ValidManner x → 1 ≤ n → n ≤ 1000000 → Sized 9 1200 (class2-factor (m .net) s x n)
   unfolding class2-factor ValidManner
-  class2-factor-sized s (slow r) w g = none-sized 1200
-  class2-factor-sized s (fast x d q) w g =
-      factor-sized (share-sized (fast x d q) w) (sized-≤ (lit≤ tt) (of-whole-sized 1 (lit≤ tt))) (sized-≤ (lit≤ tt) (class2-loss-sized s (w .0) (w .1 .0) g))
+  class2-factor-sized s (slow r) w low high = none-sized 1200
+  class2-factor-sized s (fast x d q) w low high =
+      factor-sized (share-sized (fast x d q) w) (sized-≤ (lit≤ tt) (of-whole-sized 1 (lit≤ tt)))
+      (sized-≤ (lit≤ tt) (class2-loss-sized s (w .0) (w .1 .0) low high))
 
-  pub class3-factor-sized : (s : ℕ) (x : Manner) {n : ℕ} → ValidManner x → GrainCount n → Sized 9 1200 (class3-factor (m .net) s x n)
+  pub class3-factor-sized : (s : ℕ) (x : Manner) {n : ℕ} → ValidManner x → 1 ≤ n → n ≤ 1000000 → Sized 9 1200 (class3-factor (m .net) s x n)
   unfolding class3-factor
-  class3-factor-sized s x w g = factor-sized (share-sized x w) (mean-down-sized valid s) (class3-loss-sized s g)
+  class3-factor-sized s x w low high = factor-sized (share-sized x w) (mean-down-sized valid s) (class3-loss-sized s low high)
 
   -- ---- t, down and up
 
@@ -241,19 +242,23 @@ module _ {m : Model} (valid : Valid m) where
 
   -- ---- one more step of a lower
 
-  pub lower-step-sized : {n : ℕ} {t l : Figure} (c : Class) (k g : ℕ) (x : Transition) → (c ≡ class1 → 1 ≤ k) → k ≤ 24 → GrainsOf c g → ValidManner (x .manner)
-      → Sized 9 100 t → Sized 9 n l → Sized 9 (n + 1220) (lower-step (m .net) t c k g x l)
+  pub lower-step-sized : {n : ℕ} {t l : Figure} (c : Class) (k g : ℕ) (x : Transition) → (c ≡ class1 → 1 ≤ k) → k ≤ 24 → GrainsOf c g
+      → ValidManner (x .manner) → Sized 9 100 t → Sized 9 n l → Sized 9 (n + 1220) (lower-step (m .net) t c k g x l)
   unfolding lower-step
   lower-step-sized class1 k g x low high r w p h =
-      sized-≤ (omega arith) (divided-down-sized (times-down-sized (times-down-sized h (share-sized (x .manner) w)) p) (count-sized k (le-trans high (lit≤ tt)))
-      (of-whole-above k (low refl)))
+      sized-≤ (omega arith) (divided-down-sized (times-down-sized (times-down-sized h (share-sized (x .manner) w)) p)
+      (count-sized k (le-trans high (lit≤ tt))) (of-whole-above k (low refl)))
   lower-step-sized class2 k g x low high r w p h =
-      sized-≤ (omega arith) (times-down-sized h (class2-factor-sized (x .from) (x .manner) w (record { low = r .0; high = r .1 })))
+      sized-≤ (omega arith) (times-down-sized h (class2-factor-sized (x .from) (x .manner) w (r .0) (r .1)))
   lower-step-sized class3 k g x low high r w p h =
-      sized-≤ (omega arith) (times-down-sized h (class3-factor-sized (x .from) (x .manner) w (record { low = r .0; high = r .1 })))
+      sized-≤ (omega arith) (times-down-sized h (class3-factor-sized (x .from) (x .manner) w (r .0) (r .1)))
 
-  pub lower-product-sized : (g : Transition → ℕ) {t : Figure} (p : Path) → ((x : Transition) → GrainsOf (class (m .net) x) (g x)) → length p ≤ 24 → ValidSteps p
-      → Sized 9 100 t → Sized 9 (20 + 1220 * length p) (lower-product (m .net) g t p)
+  -- of steps whose grains g gives
+  abbrev pub Grained : (Transition → ℕ) → Type 0
+  Grained g = (x : Transition) → GrainsOf (class (m .net) x) (g x)
+
+  pub lower-product-sized : (g : Transition → ℕ) {t : Figure} (p : Path) → Grained g → length p ≤ 24 → ValidSteps p → Sized 9 100 t
+      → Sized 9 (20 + 1220 * length p) (lower-product (m .net) g t p)
   unfolding lower-product Each
   lower-product-sized g [] r short w h = of-whole-sized 1 (lit≤ tt)
   lower-product-sized g (x ∷ p) r short w h =
@@ -267,7 +272,8 @@ module _ {m : Model} (valid : Valid m) where
   path-rate-sum-sized [] = none-sized 500
   path-rate-sum-sized (x ∷ p) = go (class (m .net) x) (path-rate-sum-sized p)
     where
-      go : (c : Class) {a : Figure} → Sized 9 (500 + 20 * length p) a → Sized 9 (500 + 20 * suc (length p)) (add-rates c a (rate-sum (m .net) (x .from)))
+      go : (c : Class) {a : Figure} → Sized 9 (500 + 20 * length p) a
+          → Sized 9 (500 + 20 * suc (length p)) (add-rates c a (rate-sum (m .net) (x .from)))
       go class1 h = sized-≤ (omega arith) (plus-up-sized h (rate-sum-sized valid (x .from)))
       go class2 h = sized-≤ (omega arith) h
       go class3 h = sized-≤ (omega arith) h
@@ -285,16 +291,18 @@ module _ {m : Model} (valid : Valid m) where
 
   -- ---- the lower of a path
 
-  pub lower-with-sized : (g : Transition → ℕ) (p : Path) → ((x : Transition) → GrainsOf (class (m .net) x) (g x)) → length p ≤ 24 → ValidSteps p
-      → Sized 9 32000 (lower-with (m .net) g p)
+  pub lower-with-sized : (g : Transition → ℕ) (p : Path) → Grained g → length p ≤ 24 → ValidSteps p → Sized 9 32000 (lower-with (m .net) g p)
   unfolding lower-with
   lower-with-sized g p r short w = go (leb 1000000 N) (nleb→lt 1000000 N)
     where
       N : ℕ
       N = grain-sum (m .net) g p
 
+      product : Figure
+      product = lower-product (m .net) g (down 9 (remaining-time (m .net) N)) p
+
       go : (b : Bool) → (T (not b) → N < 1000000)
-          → Sized 9 32000 (elim b as (λ _. Figure) [ true ↦ none | false ↦ times-down (lower-product (m .net) g (down 9 (remaining-time (m .net) N)) p) (last-factor (m .net) N p) ])
+          → Sized 9 32000 (elim b as (λ _. Figure) [ true ↦ none | false ↦ times-down product (last-factor (m .net) N p) ])
       go true inside = none-sized 32000
       go false inside =
           let h : N ≤ 1000000 = omega (arith, inside tt) in
