@@ -4,16 +4,18 @@ use mathlib.Core.Path.{_≡_, refl}
 use mathlib.Core.Bool.{Bool, true, false, not}
 use mathlib.Core.List.{List, [], _∷_}
 use Prim.Native.Nat.{ℕ, suc, _+_, _-_, _*_, _^_, _≤_, _<_}
-use native.Mathlib.Nat.{le-trans, pow-le-pow-left, one-le-pow}
+use native.Mathlib.Nat.{le-refl, le-trans, mul-le-mul-right, pow-le-pow-left, one-le-pow}
 use native.Mathlib.Omega.{arith}
 use lib.Dec.{T, leb, nleb→lt, lit≤}
 use lib.ListN.{length}
 use lib.IntN.{pos, negsuc}
 use Rattle.figure.specs.declared.Figure.{Figure}
 use Rattle.figure.specs.Rounding.{none, is-zero, up, down}
-use Rattle.figure.specs.Operations.{times-up, times-down, plus-up, minus-down, divided-up, times-ten, of-whole}
-use Rattle.figure.specs.Operands.{Sized}
+use Rattle.figure.specs.Operations.{times-up, times-down, plus-up, minus-down, divided-up, times-ten, of-whole, total-up, total-down}
+use Rattle.figure.specs.Operands.{Sized, Operand}
+use Rattle.figure.proofs.Reach.{reach-wide}
 use Rattle.figure.proofs.Sized.{sized-≤, times-up-sized, times-down-sized, plus-up-sized, plus-down-sized, minus-down-sized, divided-up-sized, divided-down-sized, times-ten-sized, of-whole-sized, of-quantity-sized}
+use Rattle.figure.proofs.Gathered.{Gathered, gathered-none, gathered-one, total-up-gathered, total-down-gathered, gathered-sized}
 use Rattle.model.specs.declared.Quantity.{Quantity}
 use Rattle.model.specs.Model.{Manner, slow, fast, Transition, Net, Model, exits, has-fast}
 use Rattle.model.proofs.Valid.{Each, InRange, ValidManner, Valid}
@@ -153,6 +155,10 @@ upper-sized valid [] short w = of-whole-sized 1 (lit≤ tt)
 upper-sized {m} valid (t ∷ p) short w =
     sized-≤ (omega arith) (upper-step-sized valid (class (m .net) t) (class1-count (m .net) (t ∷ p)) t (class1-count-low (m .net) t p)
     (le-trans (class1-count-≤ (m .net) (t ∷ p)) short) (w .0) (upper-sized valid p (omega arith) (w .1)))
+
+-- whatever its length up to 24
+pub any-upper-sized : {m : Model} (valid : Valid m) (p : Path) → length p ≤ 24 → ValidSteps p → Sized 9 14000 (upper (m .net) p)
+any-upper-sized valid p short w = sized-≤ (omega arith) (upper-sized valid p short w)
 
 -- ---- goals, losses and factors, of figures in range
 
@@ -311,3 +317,25 @@ module _ {m : Model} (valid : Valid m) where
   pub lower-sized : (p : Path) → length p ≤ 24 → ValidSteps p → Sized 9 32000 (lower (m .net) p)
   unfolding lower
   lower-sized p short w = lower-with-sized (grains (m .net) p) p (grains-of-class (m .net) p) short w
+
+-- ---- totals of at most n terms, each an upper or a lower in range
+
+abbrev pub Total : ℕ → Figure → Type 0
+Total n t = Gathered 18 40000 40000 n t
+
+pub total-none : Total 0 none
+total-none = gathered-none 18 40000 40000
+
+module _ {n : ℕ} {t : Figure} (h : Total n t) where
+  pub total-up-more : {a : Figure} → n < 10 ^ 9 → Sized 9 35000 a → Total (n + 1) (total-up t a)
+  total-up-more few w = total-up-gathered (le-trans {m = 10 ^ 9 + 2} (omega arith) (lit≤ tt)) h (gathered-one 40000 40000 (lit≤ tt) (lit≤ tt) w)
+
+  pub total-down-more : {a : Figure} → Sized 9 35000 a → Total (n + 1) (total-down t a)
+  total-down-more w = total-down-gathered h (gathered-one 40000 40000 (lit≤ tt) (lit≤ tt) w)
+
+  -- a step that adds nothing
+  pub total-same : Total (n + 1) t
+  total-same = record { is-figure = h .is-figure; reach = reach-wide (le-refl _) (mul-le-mul-right (10 ^ 40000) (omega arith)) (h .reach) }
+
+  pub total-operand : n ≤ 10 ^ 9 → Operand 18 t
+  total-operand few = gathered-sized 100000 9 few (lit≤ tt) (lit≤ tt) h
