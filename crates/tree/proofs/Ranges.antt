@@ -1,5 +1,5 @@
--- Every figure that the rules form in a valid model has nine digits and a power near 0: the powers of quantities, of sums over exits and of one
--- step's values. So each is a figure that operations take. Assumes nothing.
+-- Every figure that the rules form in a valid model has nine digits and a power near 0: quantities, sums over exits, the goals of grains, losses,
+-- factors, t, and the upper and the lower of a path of at most 24 steps. So operations take them all; totals of them too. Assumes nothing.
 use mathlib.Core.Path.{_≡_, refl}
 use mathlib.Core.Bool.{Bool, true, false, not}
 use mathlib.Core.List.{List, [], _∷_}
