@@ -36,7 +36,6 @@ pub struct Accepted {
     pub entries: u8,
     pub time: Quantity,
     pub prune: Quantity,
-    // FROM THE LEAD (remove this line): please add `pub transitions: usize`, the number of transitions (≡ length of the table), which the walk's tables need.
 }
 
 pub enum Reading {
