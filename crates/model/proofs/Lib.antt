@@ -8,6 +8,9 @@ pub mod SameWord
 pub mod Growing
 pub mod IndexGrowth
 pub mod ReadValid
+pub mod Filled
+pub mod Turn
+pub mod TheEnd
 pub mod FirstFault
 pub mod Steps
 pub mod Asked

@@ -3,6 +3,7 @@ mod faults;
 mod index;
 mod opening;
 mod probabilities;
+mod transitions;
 pub mod words;
 
 // A quantity of the table: coefficient / 10^scale.
