@@ -59,11 +59,11 @@ fn lessened(upward: bool, a: Figure) -> Figure
             whole: 999_999_999,
             rest: true,
         };
-        return division::finish(upward, 9, part, powers::difference(a.power, 1));
+        return division::directed(upward, 9, part, powers::difference(a.power, 1));
     }
     let part = Part {
         whole: a.digits - 1,
         rest: true,
     };
-    division::finish(upward, 9, part, a.power)
+    division::directed(upward, 9, part, a.power)
 }

@@ -58,7 +58,7 @@ pub(crate) fn gap(p: i32, q: i32) -> usize
 }
 
 // A small number of digits as a power.
-pub(crate) fn above_zero(k: usize) -> i32
+pub(crate) fn positive(k: usize) -> i32
     requires { ⌜ k ≤ 1000 ⌝ }
     ensures { λ r. ⌜ r ≡ pos k ⌝ }
 {
@@ -66,7 +66,7 @@ pub(crate) fn above_zero(k: usize) -> i32
 }
 
 // The same, below zero.
-pub(crate) fn below_zero(k: u32) -> i32
+pub(crate) fn negative(k: u32) -> i32
     requires { ⌜ k ≤ 1000 ⌝ }
     ensures { λ r. ⌜ r ≡ negℤ (pos k) ⌝ }
 {

@@ -10,9 +10,9 @@ use crate::division::Part;
 use crate::powers;
 
 // The first nine digits of a product, and how many more it has.
-pub struct Scaled {
-    pub part: Part,
-    pub dropped: i32,
+struct Scaled {
+    part: Part,
+    dropped: i32,
 }
 
 // A product of two figures that are not zero has 17 or 18 digits.
@@ -41,5 +41,5 @@ pub(crate) fn times(upward: bool, a: Figure, b: Figure) -> Figure
     let s = nine_digits(p);
     let part = s.part;
     let power = powers::sum(powers::sum(a.power, b.power), s.dropped);
-    division::finish(upward, 9, part, power)
+    division::directed(upward, 9, part, power)
 }

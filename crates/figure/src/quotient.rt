@@ -28,7 +28,7 @@ pub(crate) fn divided(upward: bool, a: Figure, b: Figure) -> Figure
     let part = division::parted(a.digits * powers::ten_to(zeros), b.digits);
     let power = powers::difference(
         powers::difference(a.power, b.power),
-        powers::above_zero(zeros),
+        powers::positive(zeros),
     );
-    division::finish(upward, 9, part, power)
+    division::directed(upward, 9, part, power)
 }

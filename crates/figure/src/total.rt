@@ -31,7 +31,7 @@ pub(crate) fn to_nine(upward: bool, t: Figure) -> Figure
         return t;
     }
     let part = division::parted(t.digits, 1_000_000_000);
-    division::finish(upward, 9, part, powers::sum(t.power, 9))
+    division::directed(upward, 9, part, powers::sum(t.power, 9))
 }
 
 pub(crate) fn sum_to_nine(upward: bool, t: Figure, s: Figure) -> Figure
@@ -56,6 +56,6 @@ fn joined(upward: bool, large: Figure, small: Figure) -> Figure
     requires { ⌜ Ordered 18 large small ⌝ }
     ensures { λ r. ⌜ r ≡ rounded upward 9 (value large +ᶠ value small) ⌝ }
 {
-    let part = division::shortened(sum::aligned(18, large, small), 1_000_000_000);
-    sum::fitting(upward, 9, part, powers::sum(large.power, 9))
+    let part = division::shortened(sum::aligned(large, small), 1_000_000_000);
+    division::trimmed(upward, 9, part, powers::sum(large.power, 9))
 }

@@ -64,10 +64,10 @@ pub(crate) fn fitted(upward: bool, n: u64, power: i32) -> Figure
     if count <= 9 {
         let k = 9 - count;
         let digits = n * powers::ten_to(k);
-        let power = powers::difference(power, powers::above_zero(k));
+        let power = powers::difference(power, powers::positive(k));
         return Figure { digits, power };
     }
     let k = count - 9;
     let part = division::parted(n, powers::ten_to(k));
-    division::finish(upward, 9, part, powers::sum(power, powers::above_zero(k)))
+    division::directed(upward, 9, part, powers::sum(power, powers::positive(k)))
 }
