@@ -11,6 +11,7 @@ use Rattle.model.specs.declared.Refusal.{Refusal}
 use Rattle.model.specs.declared.Accepted.{Accepted}
 use Rattle.model.specs.declared.Verdict.{Verdict}
 use Rattle.model.specs.declared.Verdict.the-variants.{Fine, Refused as refusal}
+use Rattle.model.specs.declared.Reading.{Reading}
 use Rattle.model.specs.declared.opening.Opening.{Opening}
 use Rattle.model.specs.declared.opening.Opening.the-variants.{Opened, Refused as unopened}
 use Rattle.model.specs.declared.transitions.Step.{Step}
@@ -20,7 +21,7 @@ use Rattle.model.specs.Words.{kind, from-field, to-field, transition-res
 use Rattle.model.specs.Faults.{Fault, _gives_, outside, differs, head-faults, quantity-faults, caps-faults, end-faults}
 use Rattle.model.specs.Reading.{Answer, refused, granted, then, Reader, at-head, at-transition, read-from, lowest-uneven}
 use Rattle.model.specs.Index.{transition-at, Indexed}
-use Rattle.model.specs.Refusal.{number, place, summary}
+use Rattle.model.specs.Refusal.{number, place, summary, Answers}
 
 -- ---- tests of words
 
@@ -196,3 +197,7 @@ pub record IsOpened (ws : List ℕ) (a : Accepted) : Type 0 where
 abbrev pub OpensAs : List ℕ → Opening → Type 0
 OpensAs ws (Opened a) = IsOpened ws a
 OpensAs ws (unopened f) = Stopped ws f
+
+-- What the tests after the end say, once the caller's two tests are passed.
+abbrev pub Concluded : List ℕ → List ℕ → List ℕ → List ℕ → Reading → Type 0
+Concluded ws slots counts places r = (budget : ℕ) → length ws ≤ 16005 → 1 ≤ budget → budget ≤ 1000000 → Answers ws budget slots counts places r
