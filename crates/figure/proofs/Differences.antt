@@ -2,7 +2,7 @@
 use mathlib.Core.Path.{_≡_, refl, sym, _∙_, ap, ap₂}
 use mathlib.Core.Bool.{Bool, true, false}
 use Prim.Native.Nat.{ℕ, zero, suc, _+_, _-_, _*_, _^_, _≤_, _<_}
-use native.Mathlib.Nat.{le-trans, lt-of-lt-of-le, mul-le-mul, mul-le-mul-right, mul-sub, zero-lt-suc, lt-irrefl, le-of-lt, pow-le-pow-right, pow-suc}
+use native.Mathlib.Nat.{lt-of-lt-of-le, mul-le-mul, mul-le-mul-right, mul-sub, zero-lt-suc, lt-irrefl, le-of-lt, pow-le-pow-right, pow-suc}
 use native.Mathlib.Numerals.{add-one}
 use native.Mathlib.Omega.{arith}
 use lib.Dec.{eqb, lit≤}

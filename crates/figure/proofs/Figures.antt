@@ -1,7 +1,7 @@
 -- What the code's proofs ask of one figure: its digits, its value, its own rounding. Assumes nothing.
 use mathlib.Core.Path.{_≡_, refl, sym, _∙_, ap, ap₂}
 use mathlib.Core.Bool.{Bool, true, false}
-use Prim.Native.Nat.{ℕ, zero, suc, _+_, _-_, _*_, _^_, _≤_, _<_}
+use Prim.Native.Nat.{ℕ, zero, suc, _-_, _*_, _^_, _≤_, _<_}
 use native.Mathlib.Nat.{le-trans, lt-irrefl}
 use native.Mathlib.Omega.{arith}
 use lib.Dec.{T, leb, lit≤}
@@ -11,7 +11,7 @@ use Rattle.fraction.proofs.Ratio.{Ratio, _≈_, ofℕ, _⊗_, ≈-trans, ⊗-co
 use Rattle.fraction.proofs.PowersOfTen.{ten-to}
 use Rattle.fraction.proofs.Signed.{signed, signed-≈}
 use Rattle.figure.specs.declared.Figure.{Figure}
-use Rattle.figure.specs.Rounding.{figure, none, value, IsFigure, is-zero, is-whole, up, down}
+use Rattle.figure.specs.Rounding.{figure, none, value, IsFigure, is-zero, is-whole}
 use Rattle.figure.specs.Operands.{Operand, Sized}
 use Rattle.figure.specs.Operations.{times-ten}
 use Rattle.figure.specs.Steps.{rounded}

@@ -1,7 +1,7 @@
 -- The order of two figures: of two with different powers, the one with the higher power is the larger. Assumes nothing.
 use mathlib.Core.Path.{_≡_, refl, sym, _∙_, ap, ap₂}
 use mathlib.Core.Bool.{Bool, true, false, cond, true≢false}
-use Prim.Native.Nat.{ℕ, zero, suc, _+_, _-_, _*_, _^_, _≤_, _<_}
+use Prim.Native.Nat.{ℕ, suc, _+_, _-_, _*_, _^_, _≤_, _<_}
 use native.Mathlib.Nat.{le-refl, le-of-lt, not-le-of-lt, lt-of-not-le, pow-succ', pos-of-ne-zero}
 use native.Mathlib.Omega.{arith}
 use lib.Dec.{T, ltb, ltb→lt, leb}
@@ -11,12 +11,12 @@ use mir.Syntax.{w32}
 use mir.Val.{SFits, toZ, ofZ}
 use mir.Facts.{toZ-ofZ}
 use borrow.Author.Tests.{le-leb, lt-leb, leb-true, leb-false}
-use Rattle.fraction.proofs.Ratio.{Ratio, _≼_, ofℕ, _⊗_, ≼-trans}
+use Rattle.fraction.proofs.Ratio.{_≼_, ofℕ, _⊗_, ≼-trans}
 use Rattle.fraction.proofs.PowersOfTen.{ten-to}
-use Rattle.fraction.proofs.Signed.{signed, at-most-signed}
+use Rattle.fraction.proofs.Signed.{at-most-signed}
 use Rattle.fraction.specs.Fraction.{at-most}
 use Rattle.figure.specs.declared.Figure.{Figure}
-use Rattle.figure.specs.Rounding.{value, IsFigure}
+use Rattle.figure.specs.Rounding.{IsFigure}
 use Rattle.figure.specs.Operations.{at-or-below}
 use Rattle.figure.proofs.Scale.{zero-below, not-zero, multiple-pos, multiple-≤, multiple-≼, higher-≼, Powers, same-power, lower, higher, powers}
 use Rattle.figure.proofs.Value.{val, value-is}

@@ -1,10 +1,10 @@
 -- The code's product of two figures is the rounding that is meant. Assumes nothing.
 use mathlib.Core.Path.{_≡_, refl, sym, _∙_, ap, ap₂}
-use mathlib.Core.List.{List, [], _∷_}
+use mathlib.Core.List.{[], _∷_}
 use mathlib.Core.Bool.{Bool, true, false}
-use Prim.Native.Nat.{ℕ, suc-le-suc, _+_, _*_, _^_, _≤_, _<_}
+use Prim.Native.Nat.{ℕ, suc-le-suc, _*_, _^_, _≤_, _<_}
 use native.Mathlib.Nat.{le-trans, mul-le-mul, zero-mul, mul-zero}
-use native.Mathlib.Omega.{arith, P, patom}
+use native.Mathlib.Omega.{arith, patom}
 use lib.Dec.{ltb, lit≤}
 use lib.IntN.{ℤ, pos, _+ℤ_}
 use lib.Signed.{mag}

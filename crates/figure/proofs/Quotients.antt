@@ -1,12 +1,12 @@
 -- The code's quotient of two figures is the rounding that is meant. Assumes nothing.
 use mathlib.Core.Path.{_≡_, sym, _∙_, ap, ap₂}
-use mathlib.Core.List.{List, [], _∷_}
+use mathlib.Core.List.{[], _∷_}
 use mathlib.Core.Bool.{Bool}
-use Prim.Native.Nat.{ℕ, _+_, _*_, _^_, _≤_, _<_}
+use Prim.Native.Nat.{ℕ, _*_, _^_, _≤_, _<_}
 use native.Mathlib.Nat.{lt-irrefl}
-use native.Mathlib.Omega.{arith, P, patom, plit}
+use native.Mathlib.Omega.{arith, patom, plit}
 use lib.Dec.{lit≤}
-use lib.IntN.{ℤ, pos, _+ℤ_, _-ℤ_, -ℤ-+ℤ-cancel}
+use lib.IntN.{ℤ, pos, _-ℤ_, -ℤ-+ℤ-cancel}
 use lib.Signed.{mag}
 use mir.Syntax.{w64}
 use mir.Val.{Fits}

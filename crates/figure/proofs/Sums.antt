@@ -1,7 +1,7 @@
 -- The code's sum of two figures of one width is the rounding that is meant: the larger, with the digits of the smaller that reach the larger's
 -- last digit and the mark that more was left, settles it. Assumes nothing.
 use mathlib.Core.Path.{_≡_, refl, sym, _∙_, ap, ap₂}
-use mathlib.Core.List.{List, [], _∷_}
+use mathlib.Core.List.{[], _∷_}
 use mathlib.Core.Bool.{Bool, true, false}
 use Prim.Native.Nat.{ℕ, zero, suc, _+_, _*_, _/_, _%_, _^_, _≤_, _<_}
 use native.Mathlib.Nat.{lt-of-lt-of-le, mul-le-mul-right, mul-le-mul-left, zero-lt-suc, lt-irrefl, div-le-self, mod-lt, div-add-mod', pow-le-pow-right, pow-succ', pos-of-ne-zero}

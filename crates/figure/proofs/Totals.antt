@@ -1,6 +1,6 @@
 -- The code's totals of eighteen digits, and its way from them to nine, are the roundings that are meant. Assumes nothing.
 use mathlib.Core.Path.{_≡_, refl, sym, _∙_, ap, ap₂}
-use mathlib.Core.Bool.{Bool, true, false}
+use mathlib.Core.Bool.{Bool}
 use Prim.Native.Nat.{ℕ, zero, suc, _+_, _*_, _^_, _≤_, _<_}
 use native.Mathlib.Nat.{le-trans, mul-le-mul-right, mul-pos, lt-irrefl}
 use native.Mathlib.Omega.{arith}
@@ -10,7 +10,7 @@ use lib.Signed.{mag}
 use mir.Syntax.{w64}
 use mir.Val.{Fits}
 use Rattle.fraction.specs.Fraction.{_+ᶠ_}
-use Rattle.fraction.proofs.Ratio.{_≈_, _⊕_, ≈-refl, ⊕-cong}
+use Rattle.fraction.proofs.Ratio.{_≈_, ≈-refl, ⊕-cong}
 use Rattle.figure.specs.declared.Figure.{Figure}
 use Rattle.figure.specs.declared.division.Part.{Part}
 use Rattle.figure.specs.Rounding.{figure, none, value, IsFigure, is-zero, is-whole}

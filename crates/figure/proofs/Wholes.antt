@@ -1,10 +1,10 @@
 -- The code's rounding of a whole number times a power of ten to nine digits is the one that is meant. Assumes nothing.
 use mathlib.Core.Path.{_≡_, refl, sym, _∙_, ap, ap₂}
-use mathlib.Core.List.{List, [], _∷_}
+use mathlib.Core.List.{[], _∷_}
 use mathlib.Core.Bool.{Bool, true, false}
 use Prim.Native.Nat.{ℕ, zero, suc, _+_, _-_, _*_, _/_, _^_, _≤_, _<_}
 use native.Mathlib.Nat.{mul-le-mul-right, mul-lt-mul-of-pos-right, zero-lt-suc, lt-irrefl, div-lt-iff-lt-mul}
-use native.Mathlib.Omega.{arith, P, patom}
+use native.Mathlib.Omega.{arith, patom}
 use lib.Dec.{lit≤}
 use lib.IntN.{ℤ, pos, negℤ, _+ℤ_, _-ℤ_, -ℤ-+ℤ-cancel, +ℤ-invl}
 use lib.Pow.{pow-add}

@@ -1,7 +1,6 @@
 -- The steps that the crate's private functions take, as their contracts name them. No public contract cites this page. Assumes nothing: these
 -- are definitions.
 use mathlib.Core.Bool.{Bool, true, false, not, _||_}
-use mathlib.Core.Path.{_≡_}
 use Prim.Native.Nat.{ℕ, zero, suc, _+_, _-_, _*_, _/_, _^_, _≤_, _<_}
 use lib.Dec.{ltb, eqb}
 use lib.IntN.{ℤ, pos, natAbs, _+ℤ_, _-ℤ_}

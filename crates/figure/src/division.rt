@@ -12,6 +12,7 @@ pub(crate) struct Part {
     pub(crate) rest: bool,
 }
 
+// n over d.
 pub(crate) fn parted(n: u64, d: u64) -> Part
     requires { ⌜ 0 < d ⌝ }
     ensures { λ r. ⌜ r ≡ part n d ⌝ }
@@ -21,7 +22,7 @@ pub(crate) fn parted(n: u64, d: u64) -> Part
     Part { whole, rest }
 }
 
-// A part cut once more, by d: what was left before counts too.
+// A part divided once more, by d: what was left before counts too.
 pub(crate) fn shortened(p: Part, d: u64) -> Part
     requires { ⌜ 0 < d ⌝ }
     ensures { λ r. ⌜ r ≡ shorter p d ⌝ }

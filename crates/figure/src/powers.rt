@@ -35,6 +35,7 @@ pub(crate) fn ten_to(k: usize) -> u64
     TENS[k]
 }
 
+// The sum of two powers.
 pub(crate) fn sum(p: i32, q: i32) -> i32
     requires { ⌜ (mag p ≤ 1000000000) × (mag q ≤ 1000000000) ⌝ }
     ensures { λ r. ⌜ r ≡ p +ℤ q ⌝ }
@@ -42,6 +43,7 @@ pub(crate) fn sum(p: i32, q: i32) -> i32
     p + q
 }
 
+// The difference of two powers.
 pub(crate) fn difference(p: i32, q: i32) -> i32
     requires { ⌜ (mag p ≤ 1000000000) × (mag q ≤ 1000000000) ⌝ }
     ensures { λ r. ⌜ r ≡ p -ℤ q ⌝ }

@@ -27,6 +27,7 @@ fn nine_digits(p: u64) -> Scaled
     Scaled { part, dropped: 9 }
 }
 
+// The product, rounded up or down.
 pub(crate) fn times(upward: bool, a: Figure, b: Figure) -> Figure
     requires { ⌜ Operand 9 a × Operand 9 b ⌝ }
     ensures { λ r. ⌜ r ≡ rounded upward 9 (value a *ᶠ value b) ⌝ }

@@ -17,6 +17,7 @@ fn zeros_needed(a: u64, b: u64) -> usize
     if b <= a { 8 } else { 9 }
 }
 
+// The quotient, rounded up or down.
 pub(crate) fn divided(upward: bool, a: Figure, b: Figure) -> Figure
     requires { ⌜ Operand 9 a × Operand 9 b × (0 < b .digits) ⌝ }
     ensures { λ r. ⌜ r ≡ rounded upward 9 (value a /ᶠ value b) ⌝ }

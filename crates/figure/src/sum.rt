@@ -10,6 +10,7 @@ use crate::division;
 use crate::division::Part;
 use crate::powers;
 
+// The sum, rounded up or down.
 pub(crate) fn plus(upward: bool, width: usize, a: Figure, b: Figure) -> Figure
     requires { ⌜ Width width × Sized width 200000 a × Sized width 200000 b ⌝ }
     ensures { λ r. ⌜ r ≡ rounded upward width (value a +ᶠ value b) ⌝ }

@@ -23,6 +23,7 @@ pub(crate) fn widened(a: Figure) -> Figure
     Figure { digits, power }
 }
 
+// A total, rounded up or down to nine digits.
 pub(crate) fn to_nine(upward: bool, t: Figure) -> Figure
     requires { ⌜ Operand 18 t ⌝ }
     ensures { λ r. ⌜ r ≡ rounded upward 9 (value t) ⌝ }
@@ -34,6 +35,7 @@ pub(crate) fn to_nine(upward: bool, t: Figure) -> Figure
     division::directed(upward, 9, part, powers::sum(t.power, 9))
 }
 
+// The sum of two totals, rounded once, to nine digits.
 pub(crate) fn sum_to_nine(upward: bool, t: Figure, s: Figure) -> Figure
     requires { ⌜ Operand 18 t × Operand 18 s ⌝ }
     ensures { λ r. ⌜ r ≡ rounded upward 9 (value t +ᶠ value s) ⌝ }
