@@ -4,6 +4,7 @@ mod faults;
 mod index;
 mod opening;
 mod probabilities;
+mod reasons;
 mod transitions;
 pub mod words;
 
