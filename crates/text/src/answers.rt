@@ -1,9 +1,11 @@
 // The text of a report and of a refusal.
 use crate::Text;
 use figure::Figure;
+use model::Refusal;
 ghost use Rattle.text.specs.Text.{answer-text};
 ghost use Rattle.text.specs.Written.{Holds};
 ghost use Rattle.model.specs.Reading.{refused, granted};
+ghost use Rattle.model.specs.Refusal.{number, place};
 
 pub fn report_text(
     lower: Figure,
@@ -20,7 +22,13 @@ pub fn report_text(
         .with_counts(deaths, cuts, steps)
 }
 
-pub fn refusal_text(number: u64, place: u64) -> Text
+pub fn refusal_text(f: Refusal) -> Text
+    ensures { λ r. ⌜ Holds (answer-text (refused (number f) (place f))) r ⌝ }
+{
+    numbered(f.number(), f.place() as u64)
+}
+
+fn numbered(number: u64, place: u64) -> Text
     ensures { λ r. ⌜ Holds (answer-text (refused number place)) r ⌝ }
 {
     Text::empty()

@@ -1,57 +1,19 @@
--- `text::answers::refusal_text` meets its contract: the line of the refusal, written from nothing. Assumes nothing.
-use mathlib.Core.List.{[], _∷_}
+-- `text::answers::refusal_text` meets its contract, by what `number` and `place` say. Assumes nothing.
 use borrow.Author.Needs.{needs}
-use Rattle.model.specs.Reading.{refused}
-use Rattle.text.specs.Text.{refused-label, refusal-text, answer-text, line}
-use Rattle.text.specs.Written.{Room}
-use Rattle.text.proofs.Pieces.{added-three, room-one, room-two, room-three, room-all, holds-all}
-use Rattle.text.proofs.Lengths.{answer-short}
 use Rattle.text.proofs.answers.refusal_text.Statement.{statement}
 use Rattle.text.proofs.answers.refusal_text.Tie as tie
 
-empty-requires : tie.Need-empty-requires
-empty-requires c κs = search needs
+number-requires : tie.Need-number-requires
+number-requires c κs = search needs
 
-room : (c : tie.After-empty) → Room (c .empty .result) (line refused-label (refusal-text (c .before .args .number) (c .before .args .place)))
-unfolding answer-text
-room c = room-all (c .empty .ensures) (answer-short (refused (c .before .args .number) (c .before .args .place)))
+place-requires : tie.Need-place-requires
+place-requires c κs = search needs
 
-slice-aggregate-with-all : tie.Need-slice-aggregate-with-all
-slice-aggregate-with-all c = search needs
-
-with-all-requires : tie.Need-with-all-requires
-with-all-requires c κs =
-    let a = c .before .before .args in
-    room-one refused-label (refusal-text (a .number) (a .place)) (10 ∷ []) (room (c .before))
-
-with-refusal-requires : tie.Need-with-refusal-requires
-with-refusal-requires c κs =
-    let b = c .before .before in
-    let a = b .before .args in
-    room-two refused-label (refusal-text (a .number) (a .place)) (10 ∷ []) (room b) (c .with-all .ensures)
-
-with-requires : tie.Need-with-requires
-with-requires c κs =
-    let b = c .before .before .before in
-    let a = b .before .args in
-    room-three refused-label (refusal-text (a .number) (a .place)) (10 ∷ []) (room b) (c .before .with-all .ensures) (c .with-refusal .ensures)
+numbered-requires : tie.Need-numbered-requires
+numbered-requires c κs = search needs
 
 returns : tie.Need-returns
-unfolding answer-text
-returns c =
-    let b = c .before .before .before .before in
-    holds-all
-    (b .empty .ensures)
-    (answer-short (refused (b .before .args .number) (b .before .args .place)))
-    (added-three (c .before .before .with-all .ensures) (c .before .with-refusal .ensures) (c .with .ensures))
+returns c = rw (c .before .before .number .ensures, c .before .place .ensures) at (c .numbered .ensures)
 
 pub refusal-text-spec : {M : Type 1} → statement M
-refusal-text-spec =
-    tie.close
-    (tie.spec
-    empty-requires
-    slice-aggregate-with-all
-    with-all-requires
-    with-refusal-requires
-    with-requires
-    returns)
+refusal-text-spec = tie.close (tie.spec number-requires place-requires numbered-requires returns)
