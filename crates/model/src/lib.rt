@@ -12,8 +12,7 @@ use crate::conclusion::concluded;
 use crate::opening::Opening;
 use crate::opening::open;
 use crate::transitions::list;
-ghost use mathlib.Core.Path.{_≡_};
-ghost use Rattle.model.specs.Refusal.{number, place, Promised};
+ghost use Rattle.model.specs.Refusal.{Promised};
 
 // A quantity of the table: coefficient / 10^scale.
 pub struct Quantity {
@@ -35,48 +34,6 @@ pub enum Refusal {
     ProbabilitiesNotOne(usize),
     StartWithoutExits(usize),
     OverBudget,
-}
-
-impl Refusal {
-    // Document 01's number.
-    pub fn number(self) -> u64
-        ensures { λ r. ⌜ r ≡ number self ⌝ }
-    {
-        match self {
-            Refusal::TooManyWords => 1,
-            Refusal::BudgetOutOfRange => 2,
-            Refusal::WrongKind(_) => 3,
-            Refusal::BitSet(_) => 4,
-            Refusal::QuantityOutOfRange(_) => 5,
-            Refusal::FieldOutOfRange(_) => 6,
-            Refusal::SelfTransition(_) => 7,
-            Refusal::DuplicateTransition(_) => 8,
-            Refusal::TooManyTransitions(_) => 9,
-            Refusal::ProbabilitiesNotOne(_) => 10,
-            Refusal::StartWithoutExits(_) => 11,
-            Refusal::OverBudget => 13,
-        }
-    }
-
-    // The place that goes with it.
-    pub fn place(self) -> usize
-        ensures { λ r. ⌜ r ≡ place self ⌝ }
-    {
-        match self {
-            Refusal::TooManyWords => 0,
-            Refusal::BudgetOutOfRange => 0,
-            Refusal::WrongKind(i) => i,
-            Refusal::BitSet(i) => i,
-            Refusal::QuantityOutOfRange(i) => i,
-            Refusal::FieldOutOfRange(i) => i,
-            Refusal::SelfTransition(i) => i,
-            Refusal::DuplicateTransition(i) => i,
-            Refusal::TooManyTransitions(i) => i,
-            Refusal::ProbabilitiesNotOne(s) => s,
-            Refusal::StartWithoutExits(s) => s,
-            Refusal::OverBudget => 0,
-        }
-    }
 }
 
 // What an accepted model's first four words say: the number of states, the start, the step limit, the entry limit, the mission time and the

@@ -24,14 +24,15 @@ ghost use Rattle.model.specs.Parts as parts;
 fn ends(w: u32, at: usize, states: usize) -> Verdict
     ensures { λ r. ⌜ parts.answer r ≡ parts.first-fault (parts.field-faults states w) at ⌝ }
 {
-    if edition(w) != 0 {
+    let rest = edition(w);
+    let from = origin(w);
+    let to = target(w);
+    if rest != 0 {
         return Verdict::Refused(Refusal::BitSet(at));
     }
-    let from = origin(w);
     if outside(1, states, from) {
         return Verdict::Refused(Refusal::FieldOutOfRange(at));
     }
-    let to = target(w);
     if outside(1, states, to) {
         return Verdict::Refused(Refusal::FieldOutOfRange(at));
     }
