@@ -18,7 +18,9 @@ use crate::walk::walk;
 use figure::Figure;
 use model::Accepted;
 use model::Quantity;
+use model::Reading;
 use model::Refusal;
+use model::read;
 
 mod grains;
 mod lower;
@@ -178,5 +180,25 @@ fn reported(t: Totals) -> Report
         deaths: t.deaths,
         cuts: t.cuts,
         steps: t.steps,
+    }
+}
+
+// A lower and an upper bound of the probability of failure of the model that the words describe, or a refusal.
+pub fn unreliability(words: &[u32], budget: u64) -> Answer
+    ensures { λ r. ⌜ Promised (now (words .entry)) (now (words .exit)) budget r ⌝ }
+{
+    let mut slots = [0u16; 16016];
+    let mut counts = [0u8; 1001];
+    let mut places = [0u16; 4000];
+    let r = read(words, budget, &mut slots, &mut counts, &mut places);
+    match r {
+        Reading::Refused(f) => Answer::Refused(f),
+        Reading::Accepted(a) => {
+            let t = walked(words, &slots, &counts, &places, a, budget);
+            if budget < t.steps {
+                return Answer::Refused(Refusal::OverBudget);
+            }
+            Answer::Report(reported(t))
+        }
     }
 }

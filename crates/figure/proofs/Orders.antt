@@ -1,8 +1,8 @@
 -- The order of two figures: of two with different powers, the one with the higher power is the larger. Assumes nothing.
 use mathlib.Core.Path.{_≡_, refl, sym, _∙_, ap, ap₂}
-use mathlib.Core.Bool.{Bool, true, false, cond, true≢false, false≢true}
-use Prim.Native.Nat.{ℕ, zero, suc, _+_, _-_, _*_, _^_, _≤_, _<_}
-use native.Mathlib.Nat.{le-refl, le-of-lt, not-le-of-lt, lt-of-not-le, pow-succ'}
+use mathlib.Core.Bool.{Bool, true, false, cond, true≢false}
+use Prim.Native.Nat.{ℕ, suc, _+_, _-_, _*_, _^_, _≤_, _<_}
+use native.Mathlib.Nat.{le-refl, le-of-lt, not-le-of-lt, lt-of-not-le, pow-succ', pos-of-ne-zero}
 use native.Mathlib.Omega.{arith}
 use lib.Dec.{T, ltb, ltb→lt, leb}
 use lib.IntN.{ℤ, pos, negsuc, _+ℤ_}
@@ -11,17 +11,17 @@ use mir.Syntax.{w32}
 use mir.Val.{SFits, toZ, ofZ}
 use mir.Facts.{toZ-ofZ}
 use borrow.Author.Tests.{le-leb, lt-leb, leb-true, leb-false}
-use Rattle.fraction.proofs.Ratio.{Ratio, _≼_, ofℕ, _⊗_, ≼-trans}
+use Rattle.fraction.proofs.Ratio.{_≼_, ofℕ, _⊗_, ≼-trans}
 use Rattle.fraction.proofs.PowersOfTen.{ten-to}
-use Rattle.fraction.proofs.Signed.{signed, at-most-signed}
+use Rattle.fraction.proofs.Signed.{at-most-signed}
 use Rattle.fraction.specs.Fraction.{at-most}
 use Rattle.figure.specs.declared.Figure.{Figure}
-use Rattle.figure.specs.Rounding.{value, IsFigure}
+use Rattle.figure.specs.Rounding.{IsFigure}
 use Rattle.figure.specs.Operations.{at-or-below}
 use Rattle.figure.proofs.Scale.{zero-below, not-zero, multiple-pos, multiple-≤, multiple-≼, higher-≼, Powers, same-power, lower, higher, powers}
 use Rattle.figure.proofs.Value.{val, value-is}
 use Rattle.figure.proofs.Stored.{stored}
-use Rattle.figure.proofs.Figures.{digits-high, digits-low}
+use Rattle.figure.proofs.Figures.{digits-high, digits-low, zero-num}
 
 -- ---- powers
 
@@ -89,15 +89,12 @@ found-below a b h = sym (at-or-below-is a b ∙ le-leb _ _ (h .le))
 pub found-above : (a b : Figure) → ¬ (val a ≼ val b) → false ≡ at-or-below a b
 found-above a b n = sym (at-or-below-is a b ∙ lt-leb _ _ (lt-of-not-le (λ h. n (record { le = h }))))
 
-zero-num : (a : Figure) → a .digits ≡ 0 → (val a) .num ≡ 0
-zero-num a z = unfold _⊗_ ofℕ in omega (arith, ap (λ n. n * (ten-to (a .power)) .num) z)
-
 module _ (a b : Figure) where
   pub first-zero : a .digits ≡ 0 → true ≡ at-or-below a b
   first-zero z = found-below a b (zero-below (val b) (zero-num a z))
 
   pub second-zero : (a .digits ≡ 0 → ⊥) → b .digits ≡ 0 → false ≡ at-or-below a b
-  second-zero n z = found-above a b (λ h. not-zero (val a) (b .power) (multiple-pos (a .digits) (a .power) (native.Mathlib.Nat.pos-of-ne-zero n)) (rw z at h))
+  second-zero n z = found-above a b (λ h. not-zero (val a) (b .power) (multiple-pos (a .digits) (a .power) (pos-of-ne-zero n)) (rw z at h))
 
   module _ (fa : SFits w32 (a .power)) (fb : SFits w32 (b .power)) where
     same-power-is : ofZ w32 (a .power) ≡ ofZ w32 (b .power) → a .power ≡ b .power
@@ -113,9 +110,13 @@ module _ (a b : Figure) where
         go true p q = found-below a b (rw r (multiple-≼ (b .power) (p refl)))
         go false p q = found-above a b (λ h. not-le-of-lt (q refl) (multiple-≤ (a .digits) (b .digits) (b .power) (rw r at h)))
 
-    pub two-powers : IsFigure 9 a → IsFigure 9 b → (a .digits ≡ 0 → ⊥) → (b .digits ≡ 0 → ⊥) → (ofZ w32 (a .power) ≡ ofZ w32 (b .power) → ⊥) → leZ (stored (a .power)) (stored (b .power)) ≡ at-or-below a b
-    two-powers ia ib na nb d = ap₂ leZ (toZ-ofZ fa) (toZ-ofZ fb) ∙ go (leZ (a .power) (b .power)) (λ h. below-strictly (a .power) (b .power) h (λ e. d (ap (ofZ w32) e))) (above-strictly (b .power) (a .power))
+    pub two-powers : IsFigure 9 a → IsFigure 9 b → (a .digits ≡ 0 → ⊥) → (b .digits ≡ 0 → ⊥) → (ofZ w32 (a .power) ≡ ofZ w32 (b .power) → ⊥)
+        → leZ (stored (a .power)) (stored (b .power)) ≡ at-or-below a b
+    two-powers ia ib na nb d =
+        ap₂ leZ (toZ-ofZ fa) (toZ-ofZ fb)
+        ∙ go (leZ (a .power) (b .power)) (λ h. below-strictly (a .power) (b .power) h (λ e. d (ap (ofZ w32) e))) (above-strictly (b .power) (a .power))
       where
-        go : (t : Bool) → (t ≡ true → (k : ℕ) × (b .power ≡ a .power +ℤ pos (suc k))) → (t ≡ false → (k : ℕ) × (a .power ≡ b .power +ℤ pos (suc k))) → t ≡ at-or-below a b
+        go : (t : Bool) → (t ≡ true → (k : ℕ) × (b .power ≡ a .power +ℤ pos (suc k))) → (t ≡ false → (k : ℕ) × (a .power ≡ b .power +ℤ pos (suc k)))
+            → t ≡ at-or-below a b
         go true p q = found-below a b (lower-value 8 a b ia ib nb (p refl .0) (p refl .1))
         go false p q = found-above a b (higher-value 8 b a ib ia na (q refl .0) (q refl .1))

@@ -1,45 +1,46 @@
 -- The code's product of two figures is the rounding that is meant. Assumes nothing.
 use mathlib.Core.Path.{_≡_, refl, sym, _∙_, ap, ap₂}
-use mathlib.Core.List.{List, [], _∷_}
+use mathlib.Core.List.{[], _∷_}
 use mathlib.Core.Bool.{Bool, true, false}
-use Prim.Native.Nat.{ℕ, zero, suc, suc-le-suc, _+_, _-_, _*_, _/_, _^_, _≤_, _<_}
-use native.Mathlib.Nat.{le-trans, mul-le-mul, zero-mul, mul-zero, one-le-pow, zero-lt-suc, lt-irrefl, le-of-lt, div-lt-iff-lt-mul}
-use native.Mathlib.Omega.{arith, P, patom}
-use lib.Dec.{ltb, lit≤, lit<}
+use Prim.Native.Nat.{ℕ, suc-le-suc, _*_, _^_, _≤_, _<_}
+use native.Mathlib.Nat.{le-trans, mul-le-mul, zero-mul, mul-zero}
+use native.Mathlib.Omega.{arith, patom}
+use lib.Dec.{ltb, lit≤}
 use lib.IntN.{ℤ, pos, _+ℤ_}
 use lib.Signed.{mag}
 use mir.Syntax.{w64}
 use mir.Val.{Fits}
 use borrow.Author.Tests.{ltb-true, ltb-false, lt-ltb, le-ltb}
 use Rattle.fraction.specs.Fraction.{_*ᶠ_}
-use Rattle.fraction.proofs.Ratio.{Ratio, _≈_, ofℕ, _⊗_, ≈-refl, ≈-sym, ≈-trans, ⊗-cong, ofℕ-⊗}
+use Rattle.fraction.proofs.Ratio.{_≈_, ofℕ, _⊗_, ≈-sym, ≈-trans, ⊗-cong, ofℕ-⊗}
 use Rattle.fraction.proofs.Certificate.{_*'_, same-value}
 use Rattle.fraction.proofs.PowersOfTen.{ten-to, ten-+}
-use Rattle.fraction.proofs.Signed.{signed}
 use Rattle.figure.specs.declared.Figure.{Figure}
-use Rattle.figure.specs.declared.product.Scaled.{Scaled}
 use Rattle.figure.specs.declared.division.Part.{Part}
-use Rattle.figure.specs.Rounding.{figure, none, value}
+use Rattle.figure.specs.declared.product.Scaled.{Scaled}
+use Rattle.figure.specs.Rounding.{none, value}
 use Rattle.figure.specs.Operands.{Operand}
 use Rattle.figure.specs.Steps.{rounded, part, directed, scaling}
+use Rattle.figure.proofs.Scale.{pow-pos}
 use Rattle.figure.proofs.Value.{val}
 use Rattle.figure.proofs.Operations.{value-times}
-use Rattle.figure.proofs.Stored.{stored, kept, mag-+, read-sum, kept-near}
-use Rattle.figure.proofs.Rounded.{Over, over-lift, rounded-part}
-use Rattle.figure.proofs.Figures.{digits-high, digits-low, rounded-zero, over-one}
+use Rattle.figure.proofs.Stored.{stored, kept, kept-near, mag-sum, read-sum}
+use Rattle.figure.proofs.Parts.{part-below}
+use Rattle.figure.proofs.Rounded.{rounded-part}
+use Rattle.figure.proofs.Figures.{digits-high, digits-low, room, rounded-zero, over-tens}
 
 -- ---- the scaling
 
-pub scaling-low : (p : ℕ) (q : Part) → p < 10 ^ 17 → q ≡ part p (10 ^ 8) → record { part = q; dropped = pos 8 } ≡ scaling p
+pub scaling-low : (p : ℕ) {q : Part} → p < 10 ^ 17 → q ≡ part p (10 ^ 8) → record { part = q; dropped = pos 8 } ≡ scaling p
 unfolding scaling
-scaling-low p q h e = rw e (sym (rw (lt-ltb p (10 ^ 17) h, scaling)))
+scaling-low p h e = rw e (sym (rw (lt-ltb p (10 ^ 17) h, scaling)))
 
-pub scaling-high : (p : ℕ) (q : Part) → 10 ^ 17 ≤ p → q ≡ part p (10 ^ 9) → record { part = q; dropped = pos 9 } ≡ scaling p
+pub scaling-high : (p : ℕ) {q : Part} → 10 ^ 17 ≤ p → q ≡ part p (10 ^ 9) → record { part = q; dropped = pos 9 } ≡ scaling p
 unfolding scaling
-scaling-high p q h e = rw e (sym (rw (le-ltb p (10 ^ 17) h, scaling)))
+scaling-high p h e = rw e (sym (rw (le-ltb p (10 ^ 17) h, scaling)))
 
--- nine digits of p, k more dropped
-pub record Nine (p : ℕ) (s : Scaled) : Type 0 where
+-- all that the product asks of it: nine digits of p, k more dropped
+record Nine (p : ℕ) (s : Scaled) : Type 0 where
   pub k : ℕ
   pub few : k ≤ 9
   pub dropped-is : s .dropped ≡ pos k
@@ -47,28 +48,29 @@ pub record Nine (p : ℕ) (s : Scaled) : Type 0 where
   pub low : 10 ^ 8 * 10 ^ k ≤ p
   pub high : p < 10 * 10 ^ 8 * 10 ^ k
 
-pub scaling-nine : (p : ℕ) → 10 ^ 16 ≤ p → p < 10 ^ 18 → Nine p (scaling p)
+scaling-nine : (p : ℕ) → 10 ^ 16 ≤ p → p < 10 ^ 18 → Nine p (scaling p)
 unfolding scaling
 scaling-nine p l h = go (ltb p (10 ^ 17)) (ltb-true p (10 ^ 17)) (ltb-false p (10 ^ 17))
   where
-    go : (b : Bool) → (b ≡ true → p < 10 ^ 17) → (b ≡ false → 10 ^ 17 ≤ p)
-        → Nine p (elim b as (λ _. Scaled) [ true ↦ record { part = part p (10 ^ 8); dropped = pos 8 } | false ↦ record { part = part p (10 ^ 9); dropped = pos 9 } ])
+    at : ℕ → Scaled
+    at k = record { part = part p (10 ^ k); dropped = pos k }
+
+    go : (b : Bool) → (b ≡ true → p < 10 ^ 17) → (b ≡ false → 10 ^ 17 ≤ p) → Nine p (elim b as (λ _. Scaled) [ true ↦ at 8 | false ↦ at 9 ])
     go true f g = record { k = 8; few = lit≤ tt; dropped-is = refl; part-is = refl; low = l; high = f refl }
     go false f g = record { k = 9; few = lit≤ tt; dropped-is = refl; part-is = refl; low = g refl; high = h }
 
 -- ---- the product
 
 product-is : (a b : Figure) → val a ⊗ val b ≈ ofℕ (a .digits * b .digits) ⊗ ten-to (a .power +ℤ b .power)
-product-is a b = ≈-trans (same-value (ofℕ (a .digits) ∷ ten-to (a .power) ∷ ofℕ (b .digits) ∷ ten-to (b .power) ∷ []) (patom 0 *' patom 1 *' (patom 2 *' patom 3)) (patom 0 *' patom 2 *' (patom 1 *' patom 3)) tt tt)
+product-is a b =
+    ≈-trans (same-value (ofℕ (a .digits) ∷ ten-to (a .power) ∷ ofℕ (b .digits) ∷ ten-to (b .power) ∷ [])
+    (patom 0 *' patom 1 *' (patom 2 *' patom 3)) (patom 0 *' patom 2 *' (patom 1 *' patom 3)) tt tt)
     (⊗-cong (≈-sym (ofℕ-⊗ (a .digits) (b .digits))) (≈-sym (ten-+ (a .power) (b .power))))
 
-zero-num : (n : ℕ) (e : ℤ) → n ≡ 0 → (ofℕ n ⊗ ten-to e) .num ≡ 0
-unfolding _⊗_ ofℕ
-zero-num n e z = rw z (zero-mul _)
-
-module _ (a b : Figure) (oa : Operand 9 a) (ob : Operand 9 b) where
-  pub product-small : a .digits * b .digits < 10 ^ 18
-  product-small = le-trans (suc-le-suc (mul-le-mul {n₂ = 999999999} {m₂ = 999999999} (omega (arith, digits-high (oa .is-figure))) (omega (arith, digits-high (ob .is-figure))))) (lit≤ tt)
+module _ {a b : Figure} (oa : Operand 9 a) (ob : Operand 9 b) where
+  product-small : a .digits * b .digits < 10 ^ 18
+  product-small = le-trans (suc-le-suc (mul-le-mul {n₂ = 999999999} {m₂ = 999999999}
+      (omega (arith, digits-high (oa .is-figure))) (omega (arith, digits-high (ob .is-figure))))) (lit≤ tt)
 
   pub product-fits : Fits w64 (a .digits * b .digits)
   product-fits = omega (arith, product-small)
@@ -79,45 +81,42 @@ module _ (a b : Figure) (oa : Operand 9 a) (ob : Operand 9 b) where
       nothing : (val a ⊗ val b) .num ≡ 0
       nothing = unfold _⊗_ ofℕ in omega (arith, ap (λ n. n * ((ten-to (a .power)) .num * (ten-to (b .power)) .num)) z)
 
-  pub product-large : (a .digits * b .digits ≡ 0 → ⊥) → 10 ^ 16 ≤ a .digits * b .digits
-  product-large n = mul-le-mul {n₁ = 100000000} {m₁ = 100000000} (digits-low (oa .is-figure) (λ z. n (rw z (zero-mul _)))) (digits-low (ob .is-figure) (λ z. n (rw z (mul-zero _))))
+  product-large : (a .digits * b .digits ≡ 0 → ⊥) → 10 ^ 16 ≤ a .digits * b .digits
+  product-large n = mul-le-mul {n₁ = 100000000} {m₁ = 100000000}
+      (digits-low (oa .is-figure) (λ z. n (rw z (zero-mul _)))) (digits-low (ob .is-figure) (λ z. n (rw z (mul-zero _))))
 
-  -- the powers and the digits on the way, as the code has them
-  module _ (n : a .digits * b .digits ≡ 0 → ⊥) (z : Scaled) (z-is : z ≡ scaling (a .digits * b .digits)) (s : ℤ) (s-is : s ≡ stored (a .power) +ℤ stored (b .power)) where
+  -- the digits and the powers on the way, as the code has them
+  module _ {z : Scaled} {s : ℤ} (n : a .digits * b .digits ≡ 0 → ⊥) (z-is : z ≡ scaling (a .digits * b .digits)) (s-is : s ≡ stored (a .power) +ℤ stored (b .power)) where
     nine : Nine (a .digits * b .digits) z
     nine = rw z-is (scaling-nine (a .digits * b .digits) (product-large n) product-small)
 
     sum-is : s ≡ a .power +ℤ b .power
-    sum-is = read-sum (a .power) (b .power) (le-trans (oa .near) (lit≤ tt)) (le-trans (ob .near) (lit≤ tt)) s-is
+    sum-is = read-sum (a .power) (b .power) (room tt (oa .near)) (room tt (ob .near)) s-is
 
     sum-near : mag s ≤ 200001
-    sum-near = rw sum-is (omega (arith, mag-+ (a .power) (b .power), oa .near, ob .near))
+    sum-near = rw sum-is (omega (arith, mag-sum (a .power) (b .power), oa .near, ob .near))
 
     dropped-near : mag (z .dropped) ≤ 9
     dropped-near = rw (nine .dropped-is) (nine .few)
 
-    pub second-near : (mag (stored s) ≤ 1000000000) × (mag (stored (z .dropped)) ≤ 1000000000)
-    second-near = (kept-near s (omega (arith, sum-near)), kept-near (z .dropped) (omega (arith, dropped-near)))
+    pub product-powers : (mag (stored s) ≤ 1000000000) × (mag (stored (z .dropped)) ≤ 1000000000)
+    product-powers = (kept-near s (omega (arith, sum-near)), kept-near (z .dropped) (omega (arith, dropped-near)))
 
-    pub whole-small : z .part .whole < 10 ^ 9
-    whole-small = rw (nine .part-is) (unfold part in div-lt-iff-lt-mul (one-le-pow (nine .k) 10 (zero-lt-suc 9)) .1 (nine .high))
+    pub product-below : z .part .whole < 10 ^ 9
+    product-below = part-below (a .digits * b .digits) (10 ^ nine .k) (10 ^ 9) (nine .part-is) (pow-pos (nine .k)) (nine .high)
 
-    module _ (u : ℤ) (u-is : u ≡ stored s +ℤ stored (z .dropped)) where
-      power-is : u ≡ a .power +ℤ b .power +ℤ pos (nine .k)
-      power-is = read-sum s (z .dropped) (omega (arith, sum-near)) (omega (arith, dropped-near)) u-is ∙ ap₂ _+ℤ_ sum-is (nine .dropped-is)
+    module _ {u : ℤ} (u-is : u ≡ stored s +ℤ stored (z .dropped)) where
+      total-is : u ≡ s +ℤ z .dropped
+      total-is = read-sum s (z .dropped) (omega (arith, sum-near)) (omega (arith, dropped-near)) u-is
 
-      power-near : mag u ≤ 300000
-      power-near = rw (read-sum s (z .dropped) (omega (arith, sum-near)) (omega (arith, dropped-near)) u-is) (omega (arith, mag-+ s (z .dropped), sum-near, dropped-near))
+      total-near : mag u ≤ 300000
+      total-near = rw total-is (omega (arith, mag-sum s (z .dropped), sum-near, dropped-near))
 
-      pub third-near : mag (stored u) ≤ 1000000
-      third-near = rw (kept u (omega (arith, power-near))) (omega (arith, power-near))
+      pub product-power : mag (stored u) ≤ 1000000
+      product-power = rw (kept u (omega (arith, total-near))) (omega (arith, total-near))
 
-      pub product-answer : (upward : Bool) (r : Figure) → r ≡ directed upward 9 (z .part) (stored u) → r ≡ rounded upward 9 (value a *ᶠ value b)
-      product-answer upward r e = e ∙ ap₂ (directed upward 9) (nine .part-is) (kept u (omega (arith, power-near)) ∙ power-is)
-          ∙ rounded-part 8 (one-le-pow (nine .k) 10 (zero-lt-suc 9)) lifted (nine .low) (nine .high) upward ∙ ap (rounded upward 9) (sym (value-times a b))
-        where
-          one-times : 1 * 10 ^ nine .k ≡ 10 ^ nine .k
-          one-times = omega arith
-
-          lifted : Over (val a ⊗ val b) (a .digits * b .digits) (10 ^ nine .k) (a .power +ℤ b .power +ℤ pos (nine .k))
-          lifted = rw one-times at (over-lift (nine .k) (over-one (a .digits * b .digits) (a .power +ℤ b .power) (product-is a b)))
+      pub product-answer : (upward : Bool) {r : Figure} → r ≡ directed upward 9 (z .part) (stored u) → r ≡ rounded upward 9 (value a *ᶠ value b)
+      product-answer upward e =
+          e ∙ ap₂ (directed upward 9) (nine .part-is) (kept u (omega (arith, total-near)) ∙ total-is ∙ ap₂ _+ℤ_ sum-is (nine .dropped-is))
+          ∙ rounded-part 8 (pow-pos (nine .k)) (over-tens (a .digits * b .digits) (nine .k) (a .power +ℤ b .power) (product-is a b)) (nine .low) (nine .high) upward
+          ∙ ap (rounded upward 9) (sym (value-times a b))

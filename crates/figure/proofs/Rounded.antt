@@ -1,23 +1,22 @@
 -- One law for every operation, over the direction and the width: the digits of a quotient at a power, and whether something was left over,
 -- settle the rounding. Assumes nothing.
-use mathlib.Core.Path.{_≡_, refl, sym, _∙_, ap, ap₂}
-use mathlib.Core.List.{List, [], _∷_}
+use mathlib.Core.Path.{_≡_, refl, sym, _∙_, ap₂}
+use mathlib.Core.List.{[], _∷_}
 use mathlib.Core.Bool.{Bool, true, false, not}
-use Prim.Native.Nat.{ℕ, zero, suc, _+_, _-_, _*_, _/_, _^_, _≤_, _<_}
-use native.Mathlib.Nat.{le-trans, div-mul-le-self, le-div-iff-mul-le, div-lt-iff-lt-mul, lt-div-mul-add, pow-succ', pow-suc, le-of-lt, lt-irrefl, not-le-of-lt, mul-pos, zero-lt-suc, le-antisymm, mul-le-mul-right}
-use native.Mathlib.Omega.{arith, by-contra, P, patom}
+use Prim.Native.Nat.{ℕ, suc, _+_, _*_, _/_, _^_, _≤_, _<_}
+use native.Mathlib.Nat.{le-trans, div-mul-le-self, le-div-iff-mul-le, div-lt-iff-lt-mul, lt-div-mul-add, pow-succ', le-of-lt, lt-irrefl, mul-pos, zero-lt-suc, le-antisymm, mul-le-mul-right}
+use native.Mathlib.Omega.{arith, by-contra, patom}
 use lib.Dec.{eqb, ltb}
 use lib.IntN.{ℤ, pos, _+ℤ_}
 use borrow.Author.Tests.{eqb-true, eqb-false, ltb-true, ltb-false}
-use Rattle.fraction.proofs.Ratio.{Ratio, _≼_, _≈_, ofℕ, _⊗_, ≼-refl, ≼-trans, ≈-refl, ≈-sym, ≈-trans, ≈-le, ≈-ge, ⊗-mono, ⊗-cong, ⊗-comm, ⊗-assoc, ⊗-cancel, ofℕ-≼, ofℕ-⊗}
+use Rattle.fraction.proofs.Ratio.{Ratio, _≼_, _≈_, ofℕ, _⊗_, ≼-refl, ≼-trans, ≈-refl, ≈-sym, ≈-trans, ≈-le, ≈-ge, ⊗-mono, ⊗-cong, ⊗-comm, ⊗-assoc, ⊗-cancel, ofℕ-⊗}
 use Rattle.fraction.proofs.Certificate.{_*'_, same-value}
 use Rattle.fraction.proofs.PowersOfTen.{ten-to, ten-+, ten-nat}
 use Rattle.fraction.proofs.Signed.{signed}
 use Rattle.figure.specs.declared.Figure.{Figure}
-use Rattle.figure.specs.declared.division.Part.{Part}
 use Rattle.figure.specs.Rounding.{figure, up, down}
 use Rattle.figure.specs.Steps.{rounded, part, shorter, carry, directed, trimmed}
-use Rattle.figure.proofs.Scale.{pow-pos, multiple-≤, multiple-≼}
+use Rattle.figure.proofs.Scale.{multiple-≤, multiple-≼}
 use Rattle.figure.proofs.Value.{low-end}
 use Rattle.figure.proofs.Up as Up
 use Rattle.figure.proofs.Down as Down

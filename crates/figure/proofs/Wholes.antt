@@ -1,13 +1,13 @@
 -- The code's rounding of a whole number times a power of ten to nine digits is the one that is meant. Assumes nothing.
 use mathlib.Core.Path.{_≡_, refl, sym, _∙_, ap, ap₂}
-use mathlib.Core.List.{List, [], _∷_}
+use mathlib.Core.List.{[], _∷_}
 use mathlib.Core.Bool.{Bool, true, false}
 use Prim.Native.Nat.{ℕ, zero, suc, _+_, _-_, _*_, _/_, _^_, _≤_, _<_}
-use native.Mathlib.Nat.{le-trans, mul-le-mul-right, mul-lt-mul-of-pos-right, zero-mul, zero-lt-suc, lt-irrefl, le-of-lt, div-lt-iff-lt-mul, mul-div-le}
-use native.Mathlib.Omega.{arith, P, patom}
-use lib.Dec.{lit≤, lit<}
-use lib.Pow.{pow-add}
+use native.Mathlib.Nat.{mul-le-mul-right, mul-lt-mul-of-pos-right, zero-lt-suc, lt-irrefl, div-lt-iff-lt-mul}
+use native.Mathlib.Omega.{arith, patom}
+use lib.Dec.{lit≤}
 use lib.IntN.{ℤ, pos, negℤ, _+ℤ_, _-ℤ_, -ℤ-+ℤ-cancel, +ℤ-invl}
+use lib.Pow.{pow-add}
 use lib.Signed.{mag}
 use mir.Syntax.{w64}
 use mir.Val.{Fits}
@@ -22,14 +22,15 @@ use Rattle.figure.specs.Rounding.{figure, none, value, is-whole, up, dow
 use Rattle.figure.specs.Steps.{rounded, part, directed, Count}
 use Rattle.figure.proofs.Scale.{pow-pos}
 use Rattle.figure.proofs.Value.{val, value-is}
-use Rattle.figure.proofs.Stored.{stored, kept, kept-near, mag-+, mag--, mag-neg, read-sum, read-difference}
-use Rattle.figure.proofs.Rounded.{Over, over-lift, rounded-part}
-use Rattle.figure.proofs.Figures.{rounded-own, rounded-zero, rounded-same, over-one}
+use Rattle.figure.proofs.Stored.{stored, kept, kept-near, mag-sum, mag-difference, mag-negative, read-sum, read-difference}
+use Rattle.figure.proofs.Parts.{part-below}
+use Rattle.figure.proofs.Rounded.{rounded-part}
+use Rattle.figure.proofs.Figures.{zero-num, rounded-own, rounded-zero, rounded-same, over-tens}
 
 -- ---- the number of digits
 
-pub more-digits : (n r : ℕ) → Count 10 (n / 10 ^ 10) r → Count 20 n (10 + r)
-more-digits n r d = record {
+pub more-digits : {n r : ℕ} → Count 10 (n / 10 ^ 10) r → Count 20 n (10 + r)
+more-digits {n} {r} d = record {
   below = rw (pow-add 10 10 r) (omega (arith, div-lt-iff-lt-mul {k = 10 ^ 10} {x = n} (lit≤ tt) .0 (d .below)));
   reached = rw (pow-add 10 10 r) (omega (arith, d .reached));
   most = omega (arith, d .most);
@@ -38,125 +39,122 @@ more-digits n r d = record {
 -- ---- zeros put behind a number
 
 pub padded-value : (n k : ℕ) (e : ℤ) → ofℕ (n * 10 ^ k) ⊗ ten-to (e -ℤ pos k) ≈ ofℕ n ⊗ ten-to e
-padded-value n k e = ≈-trans (⊗-cong (ofℕ-⊗ n (10 ^ k)) (≈-refl _)) (≈-trans (same-value (ofℕ n ∷ ofℕ (10 ^ k) ∷ ten-to (e -ℤ pos k) ∷ []) (patom 0 *' patom 1 *' patom 2) (patom 0 *' (patom 2 *' patom 1)) tt tt)
+padded-value n k e =
+    ≈-trans (⊗-cong (ofℕ-⊗ n (10 ^ k)) (≈-refl _))
+    (≈-trans (same-value (ofℕ n ∷ ofℕ (10 ^ k) ∷ ten-to (e -ℤ pos k) ∷ []) (patom 0 *' patom 1 *' patom 2) (patom 0 *' (patom 2 *' patom 1)) tt tt)
     (⊗-cong (≈-refl _) (rw (-ℤ-+ℤ-cancel e (pos k)) at (≈-trans (⊗-cong (≈-refl _) (≈-sym (ten-nat k))) (≈-sym (ten-+ (e -ℤ pos k) (pos k)))))))
 
+-- ---- the code's, of n times 10^e
+
 pub nothing-rounded : (upward : Bool) (n : ℕ) (e : ℤ) → n ≡ 0 → none ≡ rounded upward 9 (value (figure n e))
-nothing-rounded upward n e z = sym (ap (rounded upward 9) (value-is (figure n e)) ∙ rounded-zero upward 9 _ nothing)
-  where
-    nothing : (val (figure n e)) .num ≡ 0
-    nothing = unfold _⊗_ ofℕ in rw z (zero-mul _)
+nothing-rounded upward n e z = sym (ap (rounded upward 9) (value-is (figure n e)) ∙ rounded-zero upward 9 _ (zero-num (figure n e) z))
 
-module _ (n r t : ℕ) (e : ℤ) (d : Count 20 n r) (he : mag e ≤ 200000) where
-  -- at most nine digits
-  module _ (h : r ≤ 9) (t-is : t ≡ 10 ^ (9 - r)) where
-    short-power : 10 ^ r * 10 ^ (9 - r) ≡ 10 ^ 9
-    short-power = let e : r + (9 - r) ≡ 9 = omega arith in sym (pow-add 10 r (9 - r)) ∙ ap (λ m. 10 ^ m) e
+-- at most nine digits: zeros are put behind
+module _ {n r t : ℕ} (d : Count 20 n r) (h : r ≤ 9) (t-is : t ≡ 10 ^ (9 - r)) where
+  short-power : 10 ^ r * 10 ^ (9 - r) ≡ 10 ^ 9
+  short-power = let e : r + (9 - r) ≡ 9 = omega arith in sym (pow-add 10 r (9 - r)) ∙ ap (λ m. 10 ^ m) e
 
-    low : 10 ^ 8 ≤ n * 10 ^ (9 - r)
-    low = omega (arith, mul-le-mul-right (10 ^ (9 - r)) (d .reached), short-power)
+  low : 10 ^ 8 ≤ n * 10 ^ (9 - r)
+  low = omega (arith, mul-le-mul-right (10 ^ (9 - r)) (d .reached), short-power)
 
-    high : n * 10 ^ (9 - r) < 10 ^ 9
-    high = omega (arith, mul-lt-mul-of-pos-right (d .below) (pow-pos (9 - r)), short-power)
+  high : n * 10 ^ (9 - r) < 10 ^ 9
+  high = omega (arith, mul-lt-mul-of-pos-right (d .below) (pow-pos (9 - r)), short-power)
 
-    pub padded-fits : Fits w64 (n * t)
-    padded-fits = rw t-is (omega (arith, high))
+  pub padding-fits : Fits w64 (n * t)
+  padding-fits = rw t-is (omega (arith, high))
 
-    module _ (z : ℤ) (z-is : z ≡ pos (9 - r)) where
-      few : mag z ≤ 9
-      few = rw z-is (omega arith)
+  module _ (e : ℤ) (he : mag e ≤ 200000) {z : ℤ} (z-is : z ≡ pos (9 - r)) where
+    zeros-near : mag z ≤ 9
+    zeros-near = rw z-is (omega arith)
 
-      pub few-near : (mag (stored e) ≤ 1000000000) × (mag (stored z) ≤ 1000000000)
-      few-near = (kept-near e (omega arith), kept-near z (omega (arith, few)))
+    pub padding-powers : (mag (stored e) ≤ 1000000000) × (mag (stored z) ≤ 1000000000)
+    padding-powers = (kept-near e (omega arith), kept-near z (omega (arith, zeros-near)))
 
-      pub few-answer : (upward : Bool) (u : ℤ) → u ≡ stored e -ℤ stored z → figure (n * t) (stored u) ≡ rounded upward 9 (value (figure n e))
-      few-answer upward u f = ap₂ figure (ap (λ m. n * m) t-is) power ∙ sym (ap (rounded upward 9) (value-is (figure n e)) ∙ sym (rounded-same upward 8 (padded-value n (9 - r) e))
-          ∙ ap (rounded upward 9) (sym (value-is padded)) ∙ rounded-own upward 8 padded (is-whole low high))
-        where
-          padded : Figure
-          padded = figure (n * 10 ^ (9 - r)) (e -ℤ pos (9 - r))
+    pub padding-answer : (upward : Bool) {u : ℤ} → u ≡ stored e -ℤ stored z → figure (n * t) (stored u) ≡ rounded upward 9 (value (figure n e))
+    padding-answer upward {u} f = ap₂ figure (ap (λ m. n * m) t-is) power ∙ sym (ap (rounded upward 9) (value-is (figure n e))
+        ∙ sym (rounded-same upward 8 (padded-value n (9 - r) e)) ∙ ap (rounded upward 9) (sym (value-is padded)) ∙ rounded-own upward 8 padded (is-whole low high))
+      where
+        padded : Figure
+        padded = figure (n * 10 ^ (9 - r)) (e -ℤ pos (9 - r))
 
-          difference-is : u ≡ e -ℤ z
-          difference-is = read-difference e z (omega arith) (omega (arith, few)) f
+        power : stored u ≡ e -ℤ pos (9 - r)
+        power = ap stored (read-difference e z (omega arith) (omega (arith, zeros-near)) f)
+            ∙ kept (e -ℤ z) (omega (arith, mag-difference e z, zeros-near)) ∙ ap (λ y. e -ℤ y) z-is
 
-          power : stored u ≡ e -ℤ pos (9 - r)
-          power = ap stored difference-is ∙ kept (e -ℤ z) (omega (arith, mag-- e z, few)) ∙ ap (λ y. e -ℤ y) z-is
+-- more than nine: the last are divided off
+module _ {n r t : ℕ} (d : Count 20 n r) (h : 9 < r) (t-is : t ≡ 10 ^ (r - 9)) where
+  long-power : 10 ^ 9 * 10 ^ (r - 9) ≡ 10 ^ r
+  long-power = let e : 9 + (r - 9) ≡ r = omega arith in sym (pow-add 10 9 (r - 9)) ∙ ap (λ m. 10 ^ m) e
 
-  -- more than nine
-  module _ (h : 9 < r) (t-is : t ≡ 10 ^ (r - 9)) where
-    long-power : 10 ^ 9 * 10 ^ (r - 9) ≡ 10 ^ r
-    long-power = let e : 9 + (r - 9) ≡ r = omega arith in sym (pow-add 10 9 (r - 9)) ∙ ap (λ m. 10 ^ m) e
+  long-low : 10 ^ 8 * 10 ^ (r - 9) ≤ n
+  long-low = omega (arith, d .reached, long-power)
 
-    long-low : 10 ^ 8 * 10 ^ (r - 9) ≤ n
-    long-low = omega (arith, d .reached, long-power)
+  long-high : n < 10 * 10 ^ 8 * 10 ^ (r - 9)
+  long-high = omega (arith, d .below, long-power)
 
-    long-high : n < 10 * 10 ^ 8 * 10 ^ (r - 9)
-    long-high = omega (arith, d .below, long-power)
+  pub divisor-pos : 0 < t
+  divisor-pos = rw t-is (pow-pos (r - 9))
 
-    pub divisor-pos : 0 < t
-    divisor-pos = rw t-is (pow-pos (r - 9))
+  pub whole-below : {q : Part} → q ≡ part n t → q .whole < 10 ^ 9
+  whole-below f = part-below n t (10 ^ 9) f divisor-pos (rw t-is long-high)
 
-    pub part-small : (q : Part) → q ≡ part n t → q .whole < 10 ^ 9
-    part-small q f = rw (f, t-is) (unfold part in div-lt-iff-lt-mul (pow-pos (r - 9)) .1 long-high)
+  module _ (e : ℤ) (he : mag e ≤ 200000) {z : ℤ} (z-is : z ≡ pos (r - 9)) where
+    dropped-near : mag z ≤ 11
+    dropped-near = rw z-is (omega (arith, d .most))
 
-    module _ (z : ℤ) (z-is : z ≡ pos (r - 9)) where
-      some-more : mag z ≤ 11
-      some-more = rw z-is (omega (arith, d .most))
+    pub whole-powers : (mag (stored e) ≤ 1000000000) × (mag (stored z) ≤ 1000000000)
+    whole-powers = (kept-near e (omega arith), kept-near z (omega (arith, dropped-near)))
 
-      pub more-near : (mag (stored e) ≤ 1000000000) × (mag (stored z) ≤ 1000000000)
-      more-near = (kept-near e (omega arith), kept-near z (omega (arith, some-more)))
+    module _ {u : ℤ} (u-is : u ≡ stored e +ℤ stored z) where
+      sum-is : u ≡ e +ℤ z
+      sum-is = read-sum e z (omega arith) (omega (arith, dropped-near)) u-is
 
-      module _ (u : ℤ) (u-is : u ≡ stored e +ℤ stored z) where
-        sum-is : u ≡ e +ℤ z
-        sum-is = read-sum e z (omega arith) (omega (arith, some-more)) u-is
+      sum-near : mag u ≤ 300000
+      sum-near = rw sum-is (omega (arith, mag-sum e z, dropped-near))
 
-        power-near : mag u ≤ 300000
-        power-near = rw sum-is (omega (arith, mag-+ e z, some-more))
+      pub whole-power : mag (stored u) ≤ 1000000
+      whole-power = rw (kept u (omega (arith, sum-near))) (omega (arith, sum-near))
 
-        pub raised-near : mag (stored u) ≤ 1000000
-        raised-near = rw (kept u (omega (arith, power-near))) (omega (arith, power-near))
-
-        pub more-answer : (upward : Bool) (q : Part) (f : Figure) → q ≡ part n t → f ≡ directed upward 9 q (stored u) → f ≡ rounded upward 9 (value (figure n e))
-        more-answer upward q f g i = i ∙ ap₂ (directed upward 9) (g ∙ ap (part n) t-is) (kept u (omega (arith, power-near)) ∙ sum-is ∙ ap (λ y. e +ℤ y) z-is)
-            ∙ rounded-part 8 (pow-pos (r - 9)) lifted long-low long-high upward ∙ ap (rounded upward 9) (sym (value-is (figure n e)))
-          where
-            one-times : 1 * 10 ^ (r - 9) ≡ 10 ^ (r - 9)
-            one-times = omega arith
-
-            lifted : Over (val (figure n e)) n (10 ^ (r - 9)) (e +ℤ pos (r - 9))
-            lifted = rw one-times at (over-lift (r - 9) (over-one n e (≈-refl _)))
+      pub whole-answer : (upward : Bool) {q : Part} {f : Figure} → q ≡ part n t → f ≡ directed upward 9 q (stored u) → f ≡ rounded upward 9 (value (figure n e))
+      whole-answer upward g i =
+          i ∙ ap₂ (directed upward 9) (g ∙ ap (part n) t-is) (kept u (omega (arith, sum-near)) ∙ sum-is ∙ ap (λ y. e +ℤ y) z-is)
+          ∙ rounded-part 8 (pow-pos (r - 9)) (over-tens n (r - 9) e (≈-refl _)) long-low long-high upward ∙ ap (rounded upward 9) (sym (value-is (figure n e)))
 
 -- ---- whole numbers and quantities
 
-pub whole-value : (n : ℕ) → val (figure n (pos 0)) ≈ ofℕ n
+whole-value : (n : ℕ) → val (figure n (pos 0)) ≈ ofℕ n
 whole-value n = ≈-trans (⊗-cong (≈-refl _) ten-zero) (≈-trans (⊗-comm _ _) (⊗-one _))
 
-pub whole-answer : (n : ℕ) (r : Figure) → r ≡ down 9 (value (figure n (pos 0))) → r ≡ down 9 (whole n)
-whole-answer n r e = e ∙ ap (down 9) (value-is (figure n (pos 0))) ∙ rounded-same false 8 (whole-value n) ∙ ap (down 9) (signed-whole n)
+pub of-whole-answer : (n : ℕ) {r : Figure} → r ≡ down 9 (value (figure n (pos 0))) → r ≡ down 9 (whole n)
+of-whole-answer n e = e ∙ ap (down 9) (value-is (figure n (pos 0))) ∙ rounded-same false 8 (whole-value n) ∙ ap (down 9) (signed-whole n)
 
 -- c / d is what d times makes c
 ratio-rounded : (upward : Bool) (w : ℕ) (x : Ratio) (c d : ℕ) → 0 < d → x ⊗ ofℕ d ≈ ofℕ c → rounded upward (suc w) (signed x) ≡ rounded upward (suc w) (ratio (pos c) d)
 ratio-rounded upward w x c zero h e = absurd (lt-irrefl 0 h)
-ratio-rounded upward w x c (suc k) h e = rounded-same upward w same ∙ ap (rounded upward (suc w)) signed-is
+ratio-rounded upward w x c (suc k) h e = rounded-same upward w (record { eq = crosswise }) ∙ ap (rounded upward (suc w)) signed-is
   where
     q : Ratio
     q = record { num = c; den = suc k; den-pos = zero-lt-suc k }
 
-    same : x ≈ q
-    same = record { eq = crosswise }
-      where
-        crosswise : x .num * suc k ≡ c * x .den
-        crosswise = unfold _⊗_ ofℕ in omega (arith, e .eq)
+    crosswise : x .num * suc k ≡ c * x .den
+    crosswise = unfold _⊗_ ofℕ in omega (arith, e .eq)
 
     signed-is : signed q ≡ ratio (pos c) (suc k)
     signed-is = unfold signed ratio in refl
 
-pub quantity-near : (p : ℕ) (z : ℤ) → p ≤ 255 → z ≡ negℤ (pos p) → mag (stored z) ≤ 200000
-quantity-near p z h e = rw (ap stored e ∙ kept (negℤ (pos p)) (omega (arith, mag-neg (pos p)))) (omega (arith, mag-neg (pos p)))
+module _ (p : ℕ) {z : ℤ} (h : p ≤ 255) (z-is : z ≡ negℤ (pos p)) where
+  power-kept : stored z ≡ negℤ (pos p)
+  power-kept = ap stored z-is ∙ kept (negℤ (pos p)) (omega (arith, mag-negative (pos p)))
 
-pub quantity-answer : (c p m : ℕ) (z : ℤ) (r : Figure) → p ≤ 255 → m ≡ c → z ≡ negℤ (pos p) → r ≡ up 9 (value (figure m (stored z))) → r ≡ up 9 (ratio (pos c) (10 ^ p))
-quantity-answer c p m z r h f e g = g ∙ ap₂ (λ n y. up 9 (value (figure n y))) f (ap stored e ∙ kept (negℤ (pos p)) (omega (arith, mag-neg (pos p))))
-    ∙ ap (up 9) (value-is (figure c (negℤ (pos p)))) ∙ ratio-rounded true 8 (val (figure c (negℤ (pos p)))) c (10 ^ p) (pow-pos p) back
-  where
-    back : val (figure c (negℤ (pos p))) ⊗ ofℕ (10 ^ p) ≈ ofℕ c
-    back = ≈-trans (⊗-assoc _ _ _) (≈-trans (⊗-cong (≈-refl _) (≈-trans (⊗-cong (≈-refl _) (≈-sym (ten-nat p))) (≈-trans (≈-sym (ten-+ (negℤ (pos p)) (pos p))) (rw (+ℤ-invl (pos p)) ten-zero)))) (≈-trans (⊗-comm _ _) (⊗-one _)))
+  pub quantity-power : mag (stored z) ≤ 200000
+  quantity-power = rw power-kept (omega (arith, mag-negative (pos p)))
+
+  pub quantity-answer : (c : ℕ) {m : ℕ} {r : Figure} → m ≡ c → r ≡ up 9 (value (figure m (stored z))) → r ≡ up 9 (ratio (pos c) (10 ^ p))
+  quantity-answer c f g = g ∙ ap₂ (λ n y. up 9 (value (figure n y))) f power-kept
+      ∙ ap (up 9) (value-is (figure c (negℤ (pos p)))) ∙ ratio-rounded true 8 (val (figure c (negℤ (pos p)))) c (10 ^ p) (pow-pos p) back
+    where
+      one : ten-to (negℤ (pos p)) ⊗ ofℕ (10 ^ p) ≈ ofℕ 1
+      one = ≈-trans (⊗-cong (≈-refl _) (≈-sym (ten-nat p))) (≈-trans (≈-sym (ten-+ (negℤ (pos p)) (pos p))) (rw (+ℤ-invl (pos p)) ten-zero))
+
+      back : val (figure c (negℤ (pos p))) ⊗ ofℕ (10 ^ p) ≈ ofℕ c
+      back = ≈-trans (⊗-assoc _ _ _) (≈-trans (⊗-cong (≈-refl _) one) (≈-trans (⊗-comm _ _) (⊗-one _)))

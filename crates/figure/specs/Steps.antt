@@ -1,11 +1,10 @@
 -- The steps that the crate's private functions take, as their contracts name them. No public contract cites this page. Assumes nothing: these
 -- are definitions.
 use mathlib.Core.Bool.{Bool, true, false, not, _||_}
-use mathlib.Core.Path.{_≡_}
 use Prim.Native.Nat.{ℕ, zero, suc, _+_, _-_, _*_, _/_, _^_, _≤_, _<_}
 use lib.Dec.{ltb, eqb}
 use lib.IntN.{ℤ, pos, natAbs, _+ℤ_, _-ℤ_}
-use lib.Signed.{_≤ℤ_}
+use lib.Signed.{mag, _≤ℤ_}
 use Rattle.fraction.specs.Fraction.{Fraction}
 use Rattle.figure.specs.declared.Figure.{Figure}
 use Rattle.figure.specs.declared.division.Part.{Part}
@@ -47,12 +46,20 @@ trimmed upward K p e = elim (ltb (p .whole) (10 ^ K)) [ true ↦ directed upward
 abbrev pub gap-of : Figure → Figure → ℕ
 gap-of a b = natAbs (a .power -ℤ b .power)
 
--- a and b, neither of them zero, as the functions that align them take them
+-- two figures of K digits, neither of them zero, the first with the higher power or the same
 pub record Ordered (K : ℕ) (a b : Figure) : Type 0 where
   pub first : Sized K 200000 a
   pub second : Sized K 200000 b
   pub first-some : 0 < a .digits
   pub second-some : 0 < b .digits
+  pub order : b .power ≤ℤ a .power
+
+-- two numbers of up to eighteen digits in that order
+pub record Alignable (a b : Figure) : Type 0 where
+  pub first-high : a .digits < 10 ^ 18
+  pub second-high : b .digits < 10 ^ 18
+  pub first-near : mag (a .power) ≤ 200000
+  pub second-near : mag (b .power) ≤ 200000
   pub order : b .power ≤ℤ a .power
 
 -- the sum of a and b in units of a's power, where b's power is not above it
@@ -82,7 +89,10 @@ pub record Count (m n r : ℕ) : Type 0 where
 
 -- a figure of nine digits less something above zero and below a tenth of its last digit
 unfoldable pub just-below : Bool → Figure → Figure
-just-below upward a = elim (eqb (a .digits) (10 ^ 8)) [ true ↦ directed upward 9 (record { whole = 999999999; rest = true }) (a .power -ℤ pos 1) | false ↦ directed upward 9 (record { whole = a .digits - 1; rest = true }) (a .power) ]
+just-below upward a = elim (eqb (a .digits) (10 ^ 8)) [
+  | true ↦ directed upward 9 (record { whole = 999999999; rest = true }) (a .power -ℤ pos 1)
+  | false ↦ directed upward 9 (record { whole = a .digits - 1; rest = true }) (a .power)
+]
 
 -- a figure of nine digits, with eighteen
 unfoldable pub widening : Figure → Figure

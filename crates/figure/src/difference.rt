@@ -11,6 +11,7 @@ use crate::division::Part;
 use crate::powers;
 use crate::whole;
 
+// The first less the second; zero where that is not positive.
 pub(crate) fn minus(upward: bool, a: Figure, b: Figure) -> Figure
     requires { ⌜ Operand 9 a × Operand 9 b ⌝ }
     ensures { λ r. ⌜ r ≡ rounded upward 9 (value a -ᶠ value b) ⌝ }
@@ -36,6 +37,7 @@ fn less(upward: bool, a: Figure, b: Figure) -> Figure
     ensures { λ r. ⌜ r ≡ rounded upward 9 (value a -ᶠ value b) ⌝ }
 {
     let gap = powers::gap(a.power, b.power);
+    // ten powers apart or more, the second is below a tenth of the first's last digit
     if 9 < gap {
         return lessened(upward, a);
     }
@@ -59,11 +61,11 @@ fn lessened(upward: bool, a: Figure) -> Figure
             whole: 999_999_999,
             rest: true,
         };
-        return division::finish(upward, 9, part, powers::difference(a.power, 1));
+        return division::directed(upward, 9, part, powers::difference(a.power, 1));
     }
     let part = Part {
         whole: a.digits - 1,
         rest: true,
     };
-    division::finish(upward, 9, part, a.power)
+    division::directed(upward, 9, part, a.power)
 }

@@ -1,17 +1,18 @@
 // The one core of every rounding: a quotient, whether something was left over, and what the direction makes of it.
 ghost use mathlib.Core.Path.{_≡_};
-ghost use Prim.Native.Nat.{_^_, _≤_, _<_};
+ghost use Prim.Native.Nat.{_*_, _^_, _≤_, _<_};
 ghost use lib.Signed.{mag};
-ghost use Rattle.figure.specs.Steps.{Width, part, shorter, carry, directed};
+ghost use Rattle.figure.specs.Steps.{Width, part, shorter, carry, directed, trimmed};
 use crate::Figure;
 use crate::powers;
 
 // A quotient of whole numbers, and whether something was left over.
-pub struct Part {
-    pub whole: u64,
-    pub rest: bool,
+pub(crate) struct Part {
+    pub(crate) whole: u64,
+    pub(crate) rest: bool,
 }
 
+// n over d.
 pub(crate) fn parted(n: u64, d: u64) -> Part
     requires { ⌜ 0 < d ⌝ }
     ensures { λ r. ⌜ r ≡ part n d ⌝ }
@@ -21,7 +22,7 @@ pub(crate) fn parted(n: u64, d: u64) -> Part
     Part { whole, rest }
 }
 
-// A part cut once more, by d: what was left before counts too.
+// A part divided once more, by d: what was left before counts too.
 pub(crate) fn shortened(p: Part, d: u64) -> Part
     requires { ⌜ 0 < d ⌝ }
     ensures { λ r. ⌜ r ≡ shorter p d ⌝ }
@@ -35,7 +36,7 @@ pub(crate) fn shortened(p: Part, d: u64) -> Part
 }
 
 // The digits of p at a power, rounded up or down to the given width.
-pub(crate) fn finish(upward: bool, width: usize, p: Part, power: i32) -> Figure
+pub(crate) fn directed(upward: bool, width: usize, p: Part, power: i32) -> Figure
     requires { ⌜ Width width × (p .whole < 10 ^ width) × (mag power ≤ 1000000) ⌝ }
     ensures { λ r. ⌜ r ≡ directed upward width p power ⌝ }
 {
@@ -49,6 +50,17 @@ pub(crate) fn finish(upward: bool, width: usize, p: Part, power: i32) -> Figure
         digits: whole,
         power,
     }
+}
+
+// A part that may have one digit too many, at a power.
+pub(crate) fn trimmed(upward: bool, width: usize, part: Part, power: i32) -> Figure
+    requires { ⌜ Width width × (part .whole < 10 * 10 ^ width) × (mag power ≤ 900000) ⌝ }
+    ensures { λ r. ⌜ r ≡ trimmed upward width part power ⌝ }
+{
+    if part.whole < powers::ten_to(width) {
+        return directed(upward, width, part, power);
+    }
+    directed(upward, width, shortened(part, 10), powers::sum(power, 1))
 }
 
 // Digits at a power, where they may be one too many.

@@ -39,10 +39,10 @@ impl Figure {
 
     // The quantity c / 10^p of a word table, exactly.
     pub fn of_quantity(c: u32, p: u32) -> Figure
-        requires { ⌜ (c < 1000000) × (p ≤ 255) ⌝ }
+        requires { ⌜ p ≤ 255 ⌝ }
         ensures { λ r. ⌜ r ≡ ops.of-quantity c p ⌝ }
     {
-        whole::fitted(true, whole::wide(c), powers::below_zero(p))
+        whole::fitted(true, whole::wide(c), powers::negative(p))
     }
 
     pub fn times_up(self, other: Figure) -> Figure

@@ -35,6 +35,7 @@ pub(crate) fn ten_to(k: usize) -> u64
     TENS[k]
 }
 
+// The sum of two powers.
 pub(crate) fn sum(p: i32, q: i32) -> i32
     requires { ⌜ (mag p ≤ 1000000000) × (mag q ≤ 1000000000) ⌝ }
     ensures { λ r. ⌜ r ≡ p +ℤ q ⌝ }
@@ -42,6 +43,7 @@ pub(crate) fn sum(p: i32, q: i32) -> i32
     p + q
 }
 
+// The difference of two powers.
 pub(crate) fn difference(p: i32, q: i32) -> i32
     requires { ⌜ (mag p ≤ 1000000000) × (mag q ≤ 1000000000) ⌝ }
     ensures { λ r. ⌜ r ≡ p -ℤ q ⌝ }
@@ -58,7 +60,7 @@ pub(crate) fn gap(p: i32, q: i32) -> usize
 }
 
 // A small number of digits as a power.
-pub(crate) fn above_zero(k: usize) -> i32
+pub(crate) fn positive(k: usize) -> i32
     requires { ⌜ k ≤ 1000 ⌝ }
     ensures { λ r. ⌜ r ≡ pos k ⌝ }
 {
@@ -66,7 +68,7 @@ pub(crate) fn above_zero(k: usize) -> i32
 }
 
 // The same, below zero.
-pub(crate) fn below_zero(k: u32) -> i32
+pub(crate) fn negative(k: u32) -> i32
     requires { ⌜ k ≤ 1000 ⌝ }
     ensures { λ r. ⌜ r ≡ negℤ (pos k) ⌝ }
 {

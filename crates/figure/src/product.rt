@@ -10,9 +10,9 @@ use crate::division::Part;
 use crate::powers;
 
 // The first nine digits of a product, and how many more it has.
-pub struct Scaled {
-    pub part: Part,
-    pub dropped: i32,
+struct Scaled {
+    part: Part,
+    dropped: i32,
 }
 
 // A product of two figures that are not zero has 17 or 18 digits.
@@ -27,6 +27,7 @@ fn nine_digits(p: u64) -> Scaled
     Scaled { part, dropped: 9 }
 }
 
+// The product, rounded up or down.
 pub(crate) fn times(upward: bool, a: Figure, b: Figure) -> Figure
     requires { ⌜ Operand 9 a × Operand 9 b ⌝ }
     ensures { λ r. ⌜ r ≡ rounded upward 9 (value a *ᶠ value b) ⌝ }
@@ -41,5 +42,5 @@ pub(crate) fn times(upward: bool, a: Figure, b: Figure) -> Figure
     let s = nine_digits(p);
     let part = s.part;
     let power = powers::sum(powers::sum(a.power, b.power), s.dropped);
-    division::finish(upward, 9, part, power)
+    division::directed(upward, 9, part, power)
 }

@@ -17,6 +17,7 @@ fn zeros_needed(a: u64, b: u64) -> usize
     if b <= a { 8 } else { 9 }
 }
 
+// The quotient, rounded up or down.
 pub(crate) fn divided(upward: bool, a: Figure, b: Figure) -> Figure
     requires { ⌜ Operand 9 a × Operand 9 b × (0 < b .digits) ⌝ }
     ensures { λ r. ⌜ r ≡ rounded upward 9 (value a /ᶠ value b) ⌝ }
@@ -28,7 +29,7 @@ pub(crate) fn divided(upward: bool, a: Figure, b: Figure) -> Figure
     let part = division::parted(a.digits * powers::ten_to(zeros), b.digits);
     let power = powers::difference(
         powers::difference(a.power, b.power),
-        powers::above_zero(zeros),
+        powers::positive(zeros),
     );
-    division::finish(upward, 9, part, power)
+    division::directed(upward, 9, part, power)
 }

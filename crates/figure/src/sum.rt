@@ -1,16 +1,16 @@
 // Sums of figures of one width.
 ghost use mathlib.Core.Path.{_≡_};
-ghost use Prim.Native.Nat.{_*_, _^_, _≤_, _<_};
-ghost use lib.Signed.{mag, _≤ℤ_};
+ghost use Prim.Native.Nat.{_^_, _<_};
 ghost use Rattle.fraction.specs.Fraction.{_+ᶠ_};
 ghost use Rattle.figure.specs.Rounding.{value};
 ghost use Rattle.figure.specs.Operands.{Sized};
-ghost use Rattle.figure.specs.Steps.{rounded, Width, Ordered, part, aligned-sum, trimmed};
+ghost use Rattle.figure.specs.Steps.{rounded, Width, Ordered, Alignable, part, aligned-sum};
 use crate::Figure;
 use crate::division;
 use crate::division::Part;
 use crate::powers;
 
+// The sum, rounded up or down.
 pub(crate) fn plus(upward: bool, width: usize, a: Figure, b: Figure) -> Figure
     requires { ⌜ Width width × Sized width 200000 a × Sized width 200000 b ⌝ }
     ensures { λ r. ⌜ r ≡ rounded upward width (value a +ᶠ value b) ⌝ }
@@ -33,14 +33,14 @@ fn joined(upward: bool, width: usize, large: Figure, small: Figure) -> Figure
     requires { ⌜ Width width × Ordered width large small ⌝ }
     ensures { λ r. ⌜ r ≡ rounded upward width (value large +ᶠ value small) ⌝ }
 {
-    let part = aligned(width, large, small);
+    let part = aligned(large, small);
     let power = large.power;
-    fitting(upward, width, part, power)
+    division::trimmed(upward, width, part, power)
 }
 
 // The first, with what of the second reaches the first's last digit.
-pub(crate) fn aligned(width: usize, large: Figure, small: Figure) -> Part
-    requires { ⌜ Width width × Ordered width large small ⌝ }
+pub(crate) fn aligned(large: Figure, small: Figure) -> Part
+    requires { ⌜ Alignable large small ⌝ }
     ensures { λ r. ⌜ r ≡ aligned-sum large small ⌝ }
 {
     let gap = powers::gap(large.power, small.power);
@@ -63,20 +63,4 @@ fn lowered(n: u64, k: usize) -> Part
             rest: 0 < n,
         }
     }
-}
-
-// A part that may have one digit too many, at a power.
-pub(crate) fn fitting(upward: bool, width: usize, part: Part, power: i32) -> Figure
-    requires { ⌜ Width width × (part .whole < 10 * 10 ^ width) × (mag power ≤ 900000) ⌝ }
-    ensures { λ r. ⌜ r ≡ trimmed upward width part power ⌝ }
-{
-    if part.whole < powers::ten_to(width) {
-        return division::finish(upward, width, part, power);
-    }
-    division::finish(
-        upward,
-        width,
-        division::shortened(part, 10),
-        powers::sum(power, 1),
-    )
 }

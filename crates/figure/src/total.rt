@@ -23,6 +23,7 @@ pub(crate) fn widened(a: Figure) -> Figure
     Figure { digits, power }
 }
 
+// A total, rounded up or down to nine digits.
 pub(crate) fn to_nine(upward: bool, t: Figure) -> Figure
     requires { ⌜ Operand 18 t ⌝ }
     ensures { λ r. ⌜ r ≡ rounded upward 9 (value t) ⌝ }
@@ -31,9 +32,10 @@ pub(crate) fn to_nine(upward: bool, t: Figure) -> Figure
         return t;
     }
     let part = division::parted(t.digits, 1_000_000_000);
-    division::finish(upward, 9, part, powers::sum(t.power, 9))
+    division::directed(upward, 9, part, powers::sum(t.power, 9))
 }
 
+// The sum of two totals, rounded once, to nine digits.
 pub(crate) fn sum_to_nine(upward: bool, t: Figure, s: Figure) -> Figure
     requires { ⌜ Operand 18 t × Operand 18 s ⌝ }
     ensures { λ r. ⌜ r ≡ rounded upward 9 (value t +ᶠ value s) ⌝ }
@@ -56,6 +58,6 @@ fn joined(upward: bool, large: Figure, small: Figure) -> Figure
     requires { ⌜ Ordered 18 large small ⌝ }
     ensures { λ r. ⌜ r ≡ rounded upward 9 (value large +ᶠ value small) ⌝ }
 {
-    let part = division::shortened(sum::aligned(18, large, small), 1_000_000_000);
-    sum::fitting(upward, 9, part, powers::sum(large.power, 9))
+    let part = division::shortened(sum::aligned(large, small), 1_000_000_000);
+    division::trimmed(upward, 9, part, powers::sum(large.power, 9))
 }

@@ -19,22 +19,26 @@ fn few_digits(n: u64) -> usize
     requires { ⌜ (0 < n) × (n < 10 ^ 10) ⌝ }
     ensures { λ r. ⌜ Count 10 n r ⌝ }
 {
-    if n < 10_000 {
-        if n < 100 {
-            if n < 10 { 1 } else { 2 }
+    if n < 1_000 {
+        if n < 10 {
+            1
+        } else if n < 100 {
+            2
         } else {
-            if n < 1_000 { 3 } else { 4 }
+            3
         }
+    } else if n < 1_000_000 {
+        if n < 10_000 {
+            4
+        } else if n < 100_000 {
+            5
+        } else {
+            6
+        }
+    } else if n < 100_000_000 {
+        if n < 10_000_000 { 7 } else { 8 }
     } else {
-        if n < 1_000_000 {
-            if n < 100_000 { 5 } else { 6 }
-        } else {
-            if n < 100_000_000 {
-                if n < 10_000_000 { 7 } else { 8 }
-            } else {
-                if n < 1_000_000_000 { 9 } else { 10 }
-            }
-        }
+        if n < 1_000_000_000 { 9 } else { 10 }
     }
 }
 
@@ -49,7 +53,7 @@ fn digit_count(n: u64) -> usize
     10 + few_digits(n / 10_000_000_000)
 }
 
-// n times ten to power, rounded up or down to nine digits.
+// n times ten to power, rounded up or down to nine digits: zeros are put behind few digits, and the last of many divided off.
 pub(crate) fn fitted(upward: bool, n: u64, power: i32) -> Figure
     requires { ⌜ mag power ≤ 200000 ⌝ }
     ensures { λ r. ⌜ r ≡ rounded upward 9 (value (figure n power)) ⌝ }
@@ -64,10 +68,10 @@ pub(crate) fn fitted(upward: bool, n: u64, power: i32) -> Figure
     if count <= 9 {
         let k = 9 - count;
         let digits = n * powers::ten_to(k);
-        let power = powers::difference(power, powers::above_zero(k));
+        let power = powers::difference(power, powers::positive(k));
         return Figure { digits, power };
     }
     let k = count - 9;
     let part = division::parted(n, powers::ten_to(k));
-    division::finish(upward, 9, part, powers::sum(power, powers::above_zero(k)))
+    division::directed(upward, 9, part, powers::sum(power, powers::positive(k)))
 }

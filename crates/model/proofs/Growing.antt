@@ -70,7 +70,7 @@ distinct-append t [] d h = (tt, tt)
 distinct-append t (u ∷ us) d h =
     (each-append (λ v. SameTransition u v → ⊥) us (t ∷ []) (d .0) (h .0, tt), distinct-append t us (d .1) (h .1))
 
-one-exit-more : (table : List Transition) (t : Transition) → ((s : ℕ) → length (exits-in table s) ≤ 16)
+pub one-exit-more : (table : List Transition) (t : Transition) → ((s : ℕ) → length (exits-in table s) ≤ 16)
     → length (exits-in table (t .from)) < 16 → (s : ℕ) → length (exits-in (table ++ (t ∷ [])) s) ≤ 16
 one-exit-more table t few free s = go (ℕ-discrete (t .from) s)
   where

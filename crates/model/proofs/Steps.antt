@@ -6,7 +6,7 @@ use mathlib.Core.List.{List, [], _∷_}
 use native.Mathlib.Nat.{add-zero, le-of-eq}
 use native.Mathlib.Omega.{arith}
 use lib.ListN.{length, getD, take, drop, drop-of-length-le, length-drop}
-use lib.Seq.{drop-cons, take-all}
+use lib.Seq.{drop-cons, getD-drop, take-all}
 use Rattle.model.specs.Faults.{Fault}
 use Rattle.model.specs.Reading.{Answer, refused, granted, then, Reader, Next, wrong, right, unless, next, at-words-end, read-from}
 use Rattle.model.specs.Model.{Model}
@@ -17,6 +17,10 @@ use Rattle.model.proofs.Refusals.{unless-here, unless-past}
 -- the part of a list from a place to its end, as a slice of the code has it
 pub part-from : {A : Type 0} (l : List A) (a : ℕ) → take (length l - a) (drop a l) ≡ drop a l
 part-from l a = take-all (length l - a) (drop a l) (le-of-eq (length-drop a l))
+
+-- its first member
+pub part-first : (ws : List ℕ) (i : ℕ) → getD (drop i ws) 0 0 ≡ getD ws i 0
+part-first ws i = getD-drop i ws 0 0 ∙ rw add-zero
 
 -- ---- one word
 

@@ -17,6 +17,7 @@ use Rattle.model.specs.Words.{kind, coefficient-field, scale-field, quan
 use Rattle.model.specs.Faults.{differs}
 use Rattle.model.specs.Index.{transition-at}
 use Rattle.model.specs.Parts.{sums-uneven}
+use Rattle.model.proofs.Steps.{part-first}
 use Rattle.model.proofs.Slots.{slow-at, fast-at}
 
 -- 10^i for an i of at most 12
@@ -92,19 +93,16 @@ slow-units : (x : Manner) {r : Quantity} → x ≡ slow r → (probability-units
 slow-units x e = (ap probability-units e, ap is-fast e)
 
 module _ (ws : List ℕ) (p : ℕ) where
-  word-first : getD (drop p ws) 0 0 ≡ getD ws p 0
-  word-first = getD-drop p ws 0 0 ∙ rw add-zero
-
   word-slow : (kind (getD ws p 0) ≡ 7 → ⊥)
       → (probability-units ((transition-at (drop p ws)) .manner) ≡ 0) × (is-fast ((transition-at (drop p ws)) .manner) ≡ false)
-  word-slow n = slow-units _ (slow-at (drop p ws) (ne-eqb (kind (getD (drop p ws) 0 0)) 7 (λ e. n (ap kind (sym word-first) ∙ e))))
+  word-slow n = slow-units _ (slow-at (drop p ws) (ne-eqb (kind (getD (drop p ws) 0 0)) 7 (λ e. n (ap kind (sym (part-first ws p)) ∙ e))))
 
   word-fast : kind (getD ws p 0) ≡ 7
       → (probability-units ((transition-at (drop p ws)) .manner) ≡ coefficient-field (getD (drop (p + 3) ws) 0 0) * 10 ^ (12 - scale-field (getD (drop (p + 3) ws) 0 0)))
       × (is-fast ((transition-at (drop p ws)) .manner) ≡ true)
   word-fast e =
-      let m = fast-at (drop p ws) (eq-eqb (kind (getD (drop p ws) 0 0)) 7 (ap kind word-first ∙ e)) in
-      let q : getD (drop p ws) 3 0 ≡ getD (drop (p + 3) ws) 0 0 = getD-drop p ws 3 0 ∙ sym (getD-drop (p + 3) ws 0 0 ∙ rw add-zero) in
+      let m = fast-at (drop p ws) (eq-eqb (kind (getD (drop p ws) 0 0)) 7 (ap kind (part-first ws p) ∙ e)) in
+      let q : getD (drop p ws) 3 0 ≡ getD (drop (p + 3) ws) 0 0 = getD-drop p ws 3 0 ∙ sym (part-first ws (p + 3)) in
       (ap probability-units m ∙ ap (λ (w : ℕ). probability-units (fast (quantity w) (quantity w) (quantity w))) q, ap is-fast m)
 
 -- one exit more, by its word at place p

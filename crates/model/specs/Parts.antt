@@ -5,20 +5,23 @@ use mathlib.Core.Path.{_≡_}
 use mathlib.Core.Bool.{Bool, true, false, not, _&&_, _||_}
 use mathlib.Core.Logic.{_⊎_}
 use mathlib.Core.List.{List, [], _∷_}
-use lib.ListN.{length, getD, drop}
+use lib.ListN.{length, getD, drop, set}
 use lib.Dec.{leb, ltb, eqb}
 use Rattle.model.specs.declared.Refusal.{Refusal}
 use Rattle.model.specs.declared.Accepted.{Accepted}
 use Rattle.model.specs.declared.Verdict.{Verdict}
 use Rattle.model.specs.declared.Verdict.the-variants.{Fine, Refused as refusal}
+use Rattle.model.specs.declared.Reading.{Reading}
 use Rattle.model.specs.declared.opening.Opening.{Opening}
 use Rattle.model.specs.declared.opening.Opening.the-variants.{Opened, Refused as unopened}
+use Rattle.model.specs.declared.transitions.Step.{Step}
+use Rattle.model.specs.declared.transitions.Step.the-variants.{To, End, Refused as stopped}
 use Rattle.model.specs.Model.{Transition, Net, Limits, Model, any, exits, has-fast, probability-sum}
 use Rattle.model.specs.Words.{kind, from-field, to-field, transition-rest, end-rest}
 use Rattle.model.specs.Faults.{Fault, _gives_, outside, differs, head-faults, quantity-faults, caps-faults, end-faults}
 use Rattle.model.specs.Reading.{Answer, refused, granted, then, Reader, at-head, at-transition, read-from, lowest-uneven}
 use Rattle.model.specs.Index.{transition-at, Indexed}
-use Rattle.model.specs.Refusal.{number, place, summary}
+use Rattle.model.specs.Refusal.{number, place, summary, Answers}
 
 -- ---- tests of words
 
@@ -102,9 +105,84 @@ Through ws slots counts places states net = (s : ℕ) → s ≤ states → exits
 
 -- ---- the reading so far
 
+-- a word where a transition stands: of kind 5 or 7, with bits 27 to 24 zero
+pub record TransitionWord (w : ℕ) : Type 0 where
+  pub below : w < 4294967296
+  pub kind-is : (kind w ≡ 5) ⊎ (kind w ≡ 7)
+  pub rest : transition-rest w ≡ 0
+
+-- A model has been read of which `a` has the first four words and the arrays the index; `still` says how far.
+pub record Filled (a : Accepted) (ws slots counts places : List ℕ) (still : Model → Type 0) : Type 0 where
+  pub model : Model
+  pub fields : a ≡ summary model
+  pub far : still model
+  pub states-high : model .states ≤ 1000
+  pub start-high : model .net .start ≤ model .states
+  pub slots-long : length slots ≡ 16016
+  pub counts-long : length counts ≡ 1001
+  pub places-long : length places ≡ 4000
+  pub few : length (model .net .table) ≤ 4000
+  pub few-exits : (s : ℕ) → length (exits (model .net) s) ≤ 16
+  pub transitions : (j : ℕ) → j < length (model .net .table) → TransitionWord (getD ws (getD places j 0) 0)
+  pub indexed : Indexed model ws slots counts places
+
+-- the words up to place i have been read, with this many transitions
+pub record UpTo (ws : List ℕ) (i known : ℕ) (m : Model) : Type 0 where
+  pub reads : read-from at-head 0 ws ≡ read-from (at-transition m) i (drop i ws)
+  pub inside : i ≤ length ws
+  pub number : length (m .net .table) ≡ known
+
+abbrev pub Begun : Accepted → List ℕ → ℕ → ℕ → List ℕ → List ℕ → List ℕ → Type 0
+Begun a ws i known slots counts places = Filled a ws slots counts places (UpTo ws i known)
+
+-- all words have been read
+abbrev pub Ended : Accepted → List ℕ → List ℕ → List ℕ → List ℕ → Type 0
+Ended a ws slots counts places = Filled a ws slots counts places (λ m. read-from at-head 0 ws ≡ granted m)
+
 -- the words are refused
 abbrev pub Stopped : List ℕ → Refusal → Type 0
 Stopped ws f = read-from at-head 0 ws ≡ refused (number f) (place f)
+
+-- What one turn of the loop over the transitions says, from place i on.
+abbrev pub Stepped : Accepted → List ℕ → ℕ → ℕ → List ℕ → List ℕ → List ℕ → Step → Type 0
+Stepped a ws i known slots counts places (To j) = (i < j) × Begun a ws j (known + 1) slots counts places
+Stepped a ws i known slots counts places End = Ended a ws slots counts places
+Stepped a ws i known slots counts places (stopped f) = Stopped ws f
+
+-- the word at place i is of kind 5 or 7
+pub record AtTransition (a : Accepted) (ws : List ℕ) (i known : ℕ) (slots counts places : List ℕ) : Type 0 where
+  pub begun : Begun a ws i known slots counts places
+  pub short : length ws ≤ 16005
+  pub inside : i < length ws
+  pub kind-is : (kind (getD ws i 0) ≡ 5) ⊎ (kind (getD ws i 0) ≡ 7)
+
+-- how many words the transition takes whose own word is w
+abbrev pub words-taken : ℕ → ℕ
+words-taken w = elim (eqb (kind w) 7) [ true ↦ 4 | false ↦ 2 ]
+
+-- What all tests of that transition say: how it goes on, once it stands in the index.
+pub record Passes (a : Accepted) (ws : List ℕ) (i known : ℕ) (slots counts places : List ℕ) : Type 0 where
+  pub state : from-field (getD ws i 0) ≤ 1000
+  pub exits-few : getD counts (from-field (getD ws i 0)) 0 < 16
+  pub few : known < 4000
+  pub next : Begun a ws (i + words-taken (getD ws i 0)) (known + 1)
+      (set slots (from-field (getD ws i 0) * 16 + getD counts (from-field (getD ws i 0)) 0) known)
+      (set counts (from-field (getD ws i 0)) (getD counts (from-field (getD ws i 0)) 0 + 1)) (set places known i)
+
+abbrev pub Tested : Accepted → List ℕ → ℕ → ℕ → List ℕ → List ℕ → List ℕ → Verdict → Type 0
+Tested a ws i known slots counts places Fine = Passes a ws i known slots counts places
+Tested a ws i known slots counts places (refusal f) = Stopped ws f
+
+-- What the end's word at place i says, whatever model has been read.
+abbrev pub EndsAs : List ℕ → ℕ → Step → Type 0
+EndsAs ws i (To j) = ⊥
+EndsAs ws i End = (m : Model) → kind (getD ws i 0) ≡ 15 → read-from (at-transition m) i (drop i ws) ≡ granted m
+EndsAs ws i (stopped f) = (m : Model) → kind (getD ws i 0) ≡ 15 → read-from (at-transition m) i (drop i ws) ≡ refused (number f) (place f)
+
+-- What the loop over the transitions says.
+abbrev pub Listed : Accepted → List ℕ → List ℕ → List ℕ → List ℕ → Verdict → Type 0
+Listed a ws slots counts places Fine = Ended a ws slots counts places
+Listed a ws slots counts places (refusal f) = Stopped ws f
 
 -- What the first four words say.
 pub record IsOpened (ws : List ℕ) (a : Accepted) : Type 0 where
@@ -119,3 +197,7 @@ pub record IsOpened (ws : List ℕ) (a : Accepted) : Type 0 where
 abbrev pub OpensAs : List ℕ → Opening → Type 0
 OpensAs ws (Opened a) = IsOpened ws a
 OpensAs ws (unopened f) = Stopped ws f
+
+-- What the tests after the end say, once the caller's two tests are passed.
+abbrev pub Concluded : List ℕ → List ℕ → List ℕ → List ℕ → Reading → Type 0
+Concluded ws slots counts places r = (budget : ℕ) → length ws ≤ 16005 → 1 ≤ budget → budget ≤ 1000000 → Answers ws budget slots counts places r

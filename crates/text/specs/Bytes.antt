@@ -1,15 +1,33 @@
 -- Document 01, "The report program": "It reads standard input, four bytes a word, least significant first; left-over bytes count as one more word, of
 -- no kind." Assumes nothing: these are definitions.
-use Prim.Native.Nat.{ℕ, _+_, _*_}
+use Prim.Native.Nat.{ℕ, _+_, _*_, _≤_}
+use mathlib.Core.Path.{_≡_}
 use mathlib.Core.List.{List, [], _∷_}
+use lib.ListN.{length, getD, take}
 
 -- a word of no kind: kind 0 stands nowhere in a table
 abbrev pub no-kind : ℕ
 no-kind = 0
+
+-- the word of four bytes
+abbrev pub word : ℕ → ℕ → ℕ → ℕ → ℕ
+word a b c d = a + 256 * b + 65536 * c + 16777216 * d
 
 unfoldable pub words-of : List ℕ → List ℕ
 words-of [] = []
 words-of (a ∷ []) = no-kind ∷ []
 words-of (a ∷ b ∷ []) = no-kind ∷ []
 words-of (a ∷ b ∷ c ∷ []) = no-kind ∷ []
-words-of (a ∷ b ∷ c ∷ d ∷ rest) = (a + 256 * b + 65536 * c + 16777216 * d) ∷ words-of rest
+words-of (a ∷ b ∷ c ∷ d ∷ rest) = word a b c d ∷ words-of rest
+
+-- ---- for the code
+
+-- the word of a list's first four bytes
+abbrev pub word-at : List ℕ → ℕ
+word-at l = word (getD l 0 0) (getD l 1 0) (getD l 2 0) (getD l 3 0)
+
+-- the first n of these words are those of the bytes
+pub record Spelled (bytes words : List ℕ) (n : ℕ) : Type 0 where
+  pub whole : length words ≡ 16006
+  pub within : n ≤ 16006
+  pub words-are : take n words ≡ words-of bytes

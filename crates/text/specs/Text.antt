@@ -2,33 +2,38 @@
 use Prim.Native.Nat.{ℕ, zero, suc, _+_, _*_, _/_, _%_}
 use mathlib.Core.Bool.{Bool, true, false}
 use mathlib.Core.List.{List, [], _∷_, _++_}
-use lib.Dec.{ltb}
+use lib.Dec.{ltb, eqb}
 use lib.IntN.{ℤ, pos, negsuc, _+ℤ_}
 use Rattle.figure.specs.declared.Figure.{Figure}
 use Rattle.model.specs.Reading.{Answer, refused, granted}
 use Rattle.tree.specs.Report.{Report}
 
--- the decimal digits of a number, at least one; `fuel` is at least their number
+-- the decimal digits of a number, without zeros in front; `most` is at least as many as it has
 unfoldable pub digits-within : ℕ → ℕ → List ℕ
 digits-within zero n = []
-digits-within (suc fuel) n = elim (ltb n 10) [ true ↦ (48 + n) ∷ [] | false ↦ digits-within fuel (n / 10) ++ ((48 + n % 10) ∷ []) ]
+digits-within (suc most) n = elim (ltb n 10) [ true ↦ (48 + n) ∷ [] | false ↦ digits-within most (n / 10) ++ ((48 + n % 10) ∷ []) ]
 
-unfoldable pub decimal : ℕ → List ℕ
+-- a number below 10^20, as every number of 64 bits is
+abbrev pub decimal : ℕ → List ℕ
 decimal n = digits-within 20 n
 
--- a power of ten, with a minus sign where it is negative
-unfoldable pub signed-decimal : ℤ → List ℕ
-signed-decimal (pos n) = decimal n
-signed-decimal (negsuc n) = 45 ∷ decimal (suc n)
-
--- eight digits, with zeros in front
+-- the last k decimal digits of a number, with zeros in front where it has fewer
 unfoldable pub last-digits : ℕ → ℕ → List ℕ
 last-digits zero n = []
 last-digits (suc k) n = last-digits k (n / 10) ++ ((48 + n % 10) ∷ [])
 
--- "A figure prints as one digit, point, eight digits, E, exponent; zero as 0."
+-- an exponent, with a minus sign where it is negative
+unfoldable pub signed-decimal : ℤ → List ℕ
+signed-decimal (pos n) = decimal n
+signed-decimal (negsuc n) = 45 ∷ decimal (suc n)
+
+-- "A figure prints as one digit, point, eight digits, E, exponent; zero as 0." The point stands eight digits from the right.
 unfoldable pub figure-text : Figure → List ℕ
-figure-text f = elim (f .digits) [ zero ↦ 48 ∷ [] | suc d ↦ (48 + suc d / 100000000) ∷ 46 ∷ (last-digits 8 (suc d) ++ (69 ∷ signed-decimal (f .power +ℤ pos 8))) ]
+figure-text f =
+    elim (eqb (f .digits) 0) [
+      | true ↦ 48 ∷ []
+      | false ↦ last-digits 1 (f .digits / 100000000) ++ (46 ∷ (last-digits 8 (f .digits) ++ (69 ∷ signed-decimal (f .power +ℤ pos 8))))
+    ]
 
 -- "lower ", "upper ", "cut ", "deaths ", "cuts ", "steps ", "refused ", " at " in ASCII; 10 ends a line
 abbrev pub lower-label : List ℕ
@@ -59,13 +64,18 @@ at-label = 32 ∷ 97 ∷ 116 ∷ 32 ∷ []
 abbrev pub line : List ℕ → List ℕ → List ℕ
 line label rest = label ++ (rest ++ (10 ∷ []))
 
+-- the lines of the figures and those of the counts, as document 01 prints them for model A
+abbrev pub figure-lines : Figure → Figure → Figure → List ℕ
+figure-lines lower upper cut = line lower-label (figure-text lower) ++ (line upper-label (figure-text upper) ++ line cut-label (figure-text cut))
+
+abbrev pub count-lines : ℕ → ℕ → ℕ → List ℕ
+count-lines deaths cuts steps = line deaths-label (decimal deaths) ++ (line cuts-label (decimal cuts) ++ line steps-label (decimal steps))
+
+-- "NUMBER at PLACE"
+abbrev pub refusal-text : ℕ → ℕ → List ℕ
+refusal-text number place = decimal number ++ (at-label ++ decimal place)
+
 -- a report's six lines, or "`refused NUMBER at PLACE`"
 unfoldable pub answer-text : Answer Report → List ℕ
-answer-text (refused number place) = line refused-label (decimal number ++ (at-label ++ decimal place))
-answer-text (granted r) =
-    line lower-label (figure-text (r .lower))
-    ++ (line upper-label (figure-text (r .upper))
-    ++ (line cut-label (figure-text (r .cut))
-    ++ (line deaths-label (decimal (r .deaths))
-    ++ (line cuts-label (decimal (r .cuts))
-    ++ line steps-label (decimal (r .steps))))))
+answer-text (refused number place) = line refused-label (refusal-text number place)
+answer-text (granted r) = figure-lines (r .lower) (r .upper) (r .cut) ++ count-lines (r .deaths) (r .cuts) (r .steps)

@@ -1,7 +1,7 @@
 -- `Figure::of_whole` meets its contract. Assumes nothing.
 use borrow.Author.Needs.{needs}
 use Rattle.figure.specs.Operations.{of-whole}
-use Rattle.figure.proofs.Wholes.{whole-answer}
+use Rattle.figure.proofs.Wholes.{of-whole-answer}
 use Rattle.figure.proofs.Figure.of_whole.Statement.{statement}
 use Rattle.figure.proofs.Figure.of_whole.Tie as tie
 
@@ -10,7 +10,7 @@ fitted-requires c κs = search needs
 
 returns : tie.Need-returns
 unfolding of-whole
-returns c = whole-answer (c .before .args .n) (c .fitted .result) (c .fitted .ensures)
+returns c = of-whole-answer (c .before .args .n) (c .fitted .ensures)
 
 pub of-whole-spec : {M : Type 1} → statement M
 of-whole-spec = tie.close (tie.spec fitted-requires returns)

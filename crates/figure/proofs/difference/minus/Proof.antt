@@ -1,6 +1,7 @@
 -- `difference::minus` meets its contract. Assumes nothing.
 use borrow.Author.Needs.{needs}
-use Rattle.figure.proofs.Sums.{ordered, sized-more}
+use Rattle.figure.proofs.Sums.{ordered}
+use Rattle.figure.proofs.Figures.{sized-more}
 use Rattle.figure.proofs.Differences.{nothing-taken, taken-from-nothing, higher-taken}
 use Rattle.figure.proofs.difference.minus.Statement.{statement}
 use Rattle.figure.proofs.difference.minus.Tie as tie
@@ -13,7 +14,7 @@ returns-2 c = let s = c .before .before .before .before in taken-from-nothing (s
 
 less-requires : tie.Need-less-requires
 less-requires c κs = let t = c .before .before .before .before .before in let s = t .before .before .before .before in
-    ordered 9 (s .args .a) (s .args .b) (sized-more (s .pre .0)) (sized-more (s .pre .1)) (t .if2 .left) (t .before .before .if1 .left) (c .if3 .taken)
+    ordered (sized-more (s .pre .0)) (sized-more (s .pre .1)) (t .if2 .left) (t .before .before .if1 .left) (c .if3 .taken)
 
 returns-3 : tie.Need-returns-3
 returns-3 c = search needs

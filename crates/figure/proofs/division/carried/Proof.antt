@@ -14,12 +14,11 @@ sum-requires : tie.Need-sum-requires
 sum-requires c κs = (kept-near (c .before .before .args .power) (omega arith), lit≤ tt)
 
 returns : tie.Need-returns
-returns c = let z = c .before .before .before in
-    carried-full (z .args .width) (z .args .digits) (c .before .before .ten-to .result) (z .args .power) (c .sum .result) (z .pre .0 .some) (z .pre .1) (c .before .before .ten-to .ensures) (c .before .if1 .taken) (c .sum .ensures)
+returns c = let t = c .before .before in let s = t .before in
+    carried-full (s .args .power) (s .pre .1) (s .pre .0) (t .ten-to .ensures) (c .before .if1 .taken) (c .sum .ensures)
 
 returns-2 : tie.Need-returns-2
-returns-2 c = let z = c .before .before in
-    carried-short (z .args .width) (z .args .digits) (c .before .ten-to .result) (z .args .power) (z .pre .1) (c .before .ten-to .ensures) (c .if1 .left)
+returns-2 c = let t = c .before in let s = t .before in carried-short (s .args .power) (s .pre .1) (s .args .width) (s .args .digits) (t .ten-to .ensures) (c .if1 .left)
 
 pub carried-spec : {M : Type 1} → statement M
 carried-spec = tie.close (tie.spec ten-to-requires sum-requires returns returns-2)

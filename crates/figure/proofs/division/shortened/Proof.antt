@@ -8,10 +8,10 @@ parted-requires : tie.Need-parted-requires
 parted-requires c κs = search needs
 
 returns : tie.Need-returns
-returns c = let z = c .before .before in shorter-rest (z .args .p) (z .args .d) (c .before .parted .result) (c .if1 .taken) (c .before .parted .ensures)
+returns c = let s = c .before .before in shorter-rest (s .args .p) (s .args .d) (c .before .parted .ensures) (c .if1 .taken)
 
 returns-2 : tie.Need-returns-2
-returns-2 c = let z = c .before .before in shorter-clean (z .args .p) (z .args .d) (c .before .parted .result) (c .if1 .left) (c .before .parted .ensures)
+returns-2 c = let s = c .before .before in shorter-clean (s .args .p) (s .args .d) (c .before .parted .ensures) (c .if1 .left)
 
 pub shortened-spec : {M : Type 1} → statement M
 shortened-spec = tie.close (tie.spec parted-requires returns returns-2)

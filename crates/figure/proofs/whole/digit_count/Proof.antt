@@ -17,7 +17,7 @@ add-result : tie.Need-add-result
 add-result c = search needs
 
 returns-2 : tie.Need-returns-2
-returns-2 c = more-digits (c .before .before .args .n) (c .few-digits2 .result) (c .few-digits2 .ensures)
+returns-2 c = more-digits (c .few-digits2 .ensures)
 
 pub digit-count-spec : {M : Type 1} → statement M
 digit-count-spec =

@@ -1,0 +1,6 @@
+mod Pieces
+mod Digits
+mod Signed
+mod Figures
+mod Lengths
+pub mod Words

@@ -1,0 +1,50 @@
+// The words of some bytes: four bytes a word, least significant first; left-over bytes are one more word, of no kind.
+
+ghost use Prim.Native.Nat.{_+_, _*_, _≤_, _<_};
+ghost use mathlib.Core.Path.{_≡_};
+ghost use lib.ListN.{length, take};
+ghost use Rattle.text.specs.Bytes.{word-at, Spelled};
+
+fn byte(x: u8) -> u32
+    ensures { λ r. ⌜ (r ≡ x) × (r < 256) ⌝ }
+{
+    x as u32
+}
+
+// The word of the part's first four bytes.
+fn word(part: &[u8]) -> u32
+    requires { ⌜ 4 ≤ length (now part) ⌝ }
+    ensures { λ r. ⌜ r ≡ word-at (now (part .entry)) ⌝ }
+{
+    byte(part[0]) + 256 * byte(part[1]) + 65_536 * byte(part[2]) + 16_777_216 * byte(part[3])
+}
+
+fn fill(bytes: &[u8], words: &mut [u32; 16006]) -> usize
+    requires { ⌜ (length (now bytes) ≤ 64024) × (length (now words) ≡ 16006) ⌝ }
+    ensures { λ r. ⌜ Spelled (now (bytes .entry)) (now (words .exit)) r ⌝ }
+{
+    let mut at = 0;
+    let mut n = 0;
+    while at + 4 <= bytes.len() {
+        words[n] = word(&bytes[at..]);
+        at += 4;
+        n += 1;
+    }
+    if at < bytes.len() {
+        words[n] = 0;
+        n += 1;
+    }
+    n
+}
+
+// Puts the words of the bytes at the start of `words`, and answers how many there are. Of more than 64,024 bytes it takes the first
+// 64,024: these are 16,006 words, which is already more than a model may have.
+pub fn words_of(bytes: &[u8], words: &mut [u32; 16006]) -> usize
+    ensures { λ r. ⌜ Spelled (take 64024 (now (bytes .entry))) (now (words .exit)) r ⌝ }
+{
+    *words = [0; 16006];
+    if bytes.len() <= 64_024 {
+        return fill(bytes, words);
+    }
+    fill(&bytes[..64_024], words)
+}
