@@ -21,7 +21,7 @@ use Rattle.figure.specs.Rounding.{value, IsFigure, is-zero, is-whole}
 use Rattle.figure.proofs.Scale.{pow-pos, pow-mono, multiple-≤, multiple-≼, power-inverse}
 use Rattle.figure.proofs.Value.{val, value-is}
 use Rattle.figure.proofs.Figures.{digits-high}
-use Rattle.figure.proofs.Stored.{stored, mag--, both-fit, both-kept, gap-fits}
+use Rattle.figure.proofs.Stored.{stored, mag-difference, both-fit, both-kept, gap-fits}
 use Rattle.bounds.specs.Roots.{Ceiling}
 
 -- ---- two tests that say the same
@@ -140,16 +140,16 @@ module _ (g : Figure) (i : IsFigure 9 g) (fits : SFits w32 (g .power)) where
     near = rw (part-power .1 .0) (le-trans {m = 9} (omega (arith, part-power .1 .1)) (lit≤ tt))
 
     turned : stored (pos 0 -ℤ stored (g .power)) ≡ pos (suc (part-power .0))
-    turned = both-kept _-ℤ_ mag-- (pos 0) (g .power) (lit≤ tt) near ∙ ap (λ (z : ℤ). pos 0 -ℤ z) (part-power .1 .0) ∙ ap pos (omega arith)
+    turned = both-kept _-ℤ_ mag-difference (pos 0) (g .power) (lit≤ tt) near ∙ ap (λ (z : ℤ). pos 0 -ℤ z) (part-power .1 .0) ∙ ap pos (omega arith)
 
     part-index : natAbs (stored (pos 0 -ℤ stored (g .power))) ≡ suc (part-power .0)
     part-index = ap natAbs turned
 
     pub part-fit : SFits w32 (pos 0 -ℤ stored (g .power))
-    part-fit = both-fit _-ℤ_ mag-- (pos 0) (g .power) (lit≤ tt) near
+    part-fit = both-fit _-ℤ_ mag-difference (pos 0) (g .power) (lit≤ tt) near
 
     pub part-cast : T (nonNeg (stored (pos 0 -ℤ stored (g .power)))) × Fits w64 (natAbs (stored (pos 0 -ℤ stored (g .power))))
-    part-cast = gap-fits (pos 0) (g .power) (lit≤ tt) near (record { le = rw (part-power .1 .0) tt })
+    part-cast = gap-fits {p = pos 0} {q = g .power} (record { le = rw (part-power .1 .0) tt }) (lit≤ tt) near
 
     pub part-below : natAbs (stored (pos 0 -ℤ stored (g .power))) < 10
     part-below = rw part-index (omega (arith, part-power .1 .1))

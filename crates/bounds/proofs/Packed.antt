@@ -12,34 +12,34 @@ use mir.Facts.{fits-natAbs}
 use Rattle.figure.specs.declared.Figure.{Figure}
 use Rattle.figure.specs.Rounding.{figure, IsFigure, is-zero, is-whole}
 use Rattle.figure.specs.Operands.{Operand}
-use Rattle.figure.proofs.Stored.{stored, small, kept, mag-+, mag--, near-+, nonneg-sub, both-small, both-fit, both-kept}
+use Rattle.figure.proofs.Stored.{stored, small, kept, mag-sum, mag-difference, sum-near, difference-nonneg, both-small, both-fit, both-kept}
 use Rattle.bounds.specs.Tables.{unpacked}
 
 -- ---- a power raised above 0
 
 not-negative : (p : ℤ) → mag p ≤ 100000 → T (nonNeg (p +ℤ pos 1048576))
 not-negative (pos a) h = tt
-not-negative (negsuc a) h = nonneg-sub (pos 1048576) (pos (suc a)) (le→leb (suc a) 1048576 (le-trans {m = 100001} (omega arith) (lit≤ tt)))
+not-negative (negsuc a) h = difference-nonneg (pos 1048576) (pos (suc a)) (le→leb (suc a) 1048576 (le-trans {m = 100001} (omega arith) (lit≤ tt)))
 
 module _ (p : ℤ) (h : mag p ≤ 100000) where
   in-reach : mag p ≤ 1000000000
   in-reach = le-trans h (lit≤ tt)
 
   pub raised-fit : SFits w32 (stored p +ℤ pos 1048576)
-  raised-fit = both-fit _+ℤ_ near-+ p (pos 1048576) in-reach (lit≤ tt)
+  raised-fit = both-fit _+ℤ_ sum-near p (pos 1048576) in-reach (lit≤ tt)
 
   raised-kept : stored (stored p +ℤ pos 1048576) ≡ p +ℤ pos 1048576
-  raised-kept = both-kept _+ℤ_ near-+ p (pos 1048576) in-reach (lit≤ tt)
+  raised-kept = both-kept _+ℤ_ sum-near p (pos 1048576) in-reach (lit≤ tt)
 
   pub raised-cast : T (nonNeg (stored (stored p +ℤ pos 1048576))) × Fits w64 (natAbs (stored (stored p +ℤ pos 1048576)))
-  raised-cast = rw raised-kept (not-negative p h, fits-natAbs tt (small (p +ℤ pos 1048576) (both-small _+ℤ_ near-+ p (pos 1048576) in-reach (lit≤ tt))))
+  raised-cast = rw raised-kept (not-negative p h, fits-natAbs tt (small (p +ℤ pos 1048576) (both-small _+ℤ_ sum-near p (pos 1048576) in-reach (lit≤ tt))))
 
   pub raised-is : pos (natAbs (stored (stored p +ℤ pos 1048576))) ≡ p +ℤ pos 1048576
   raised-is = pos-natAbs _ (raised-cast .0) ∙ raised-kept
 
   -- it takes 21 bits
   pub raised-below : (r : ℕ) → pos r ≡ p +ℤ pos 1048576 → r < 2097152
-  raised-below r e = le-trans {m = 1148579} (omega (arith, ap mag e, mag-+ p (pos 1048576))) (lit≤ tt)
+  raised-below r e = le-trans {m = 1148579} (omega (arith, ap mag e, mag-sum p (pos 1048576))) (lit≤ tt)
 
 -- ---- and set back
 
@@ -48,10 +48,10 @@ module _ (k : ℕ) (h : k < 2097152) where
   low = le-trans {m = 2097152} (omega arith) (lit≤ tt)
 
   pub lowered-fit : SFits w32 (stored (pos k) -ℤ pos 1048576)
-  lowered-fit = both-fit _-ℤ_ mag-- (pos k) (pos 1048576) low (lit≤ tt)
+  lowered-fit = both-fit _-ℤ_ mag-difference (pos k) (pos 1048576) low (lit≤ tt)
 
   pub lowered-is : stored (stored (pos k) -ℤ pos 1048576) ≡ pos k -ℤ pos 1048576
-  lowered-is = both-kept _-ℤ_ mag-- (pos k) (pos 1048576) low (lit≤ tt)
+  lowered-is = both-kept _-ℤ_ mag-difference (pos k) (pos 1048576) low (lit≤ tt)
 
 -- ---- a figure
 
@@ -61,7 +61,7 @@ unfolding unpacked
 unpacked-is x p e = ap₂ figure refl (kept p (le-trans {m = 3145730} near (lit≤ tt)) ∙ e)
   where
     near : mag p ≤ 3145730
-    near = rw e (omega (arith, mag-- (pos (x / 1073741824 % 2097152)) (pos 1048576)))
+    near = rw e (omega (arith, mag-difference (pos (x / 1073741824 % 2097152)) (pos 1048576)))
 
 module _ (f : Figure) (h : Operand 9 f) (r : ℕ) (raised : pos r ≡ stored (f .power) +ℤ pos 1048576) where
   e : pos r ≡ f .power +ℤ pos 1048576

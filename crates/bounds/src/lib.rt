@@ -45,7 +45,7 @@ pub enum Answer {
 }
 
 fn figure_of(q: Quantity) -> Figure
-    requires { ⌜ (q .coefficient < 1000000) × (q .scale ≤ 255) ⌝ }
+    requires { ⌜ q .scale ≤ 255 ⌝ }
     ensures { λ r. ⌜ r ≡ states.figure-of q ⌝ }
 {
     Figure::of_quantity(q.coefficient, q.scale)

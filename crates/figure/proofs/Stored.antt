@@ -65,7 +65,7 @@ module _ (op : ℤ → ℤ → ℤ) (near : Near op) (p q : ℤ) (hp : mag p ≤
   as-read : op (stored p) (stored q) ≡ op p q
   as-read = ap₂ op (kept p (omega arith)) (kept q (omega arith))
 
-  both-small : mag (op p q) ≤ 2000000002
+  pub both-small : mag (op p q) ≤ 2000000002
   both-small = omega (arith, near p q)
 
   pub both-fit : SFits w32 (op (stored p) (stored q))
@@ -86,7 +86,7 @@ not-below : (t : Bool) (x y : ℕ) → T (not t) → T (nonNeg (cond t (negsuc x
 not-below true x y h = absurd h
 not-below false x y h = tt
 
-difference-nonneg : (a b : ℤ) → T (leZ b a) → T (nonNeg (a -ℤ b))
+pub difference-nonneg : (a b : ℤ) → T (leZ b a) → T (nonNeg (a -ℤ b))
 difference-nonneg (pos a) (pos zero) h = tt
 difference-nonneg (pos a) (pos (suc b)) h = not-below (ltb a (suc b)) (suc b - suc a) (a - suc b) (le→nltb a (suc b) (leb→le (suc b) a h))
 difference-nonneg (pos a) (negsuc b) h = tt
@@ -137,7 +137,7 @@ unfoldable pub tens : ℕ → ℕ → List ℕ
 tens zero j = []
 tens (suc n) j = 10 ^ j ∷ tens n (suc j)
 
-tens-at : (n j k : ℕ) → k < n → getD (tens n j) k 0 ≡ 10 ^ (j + k)
+pub tens-at : (n j k : ℕ) → k < n → getD (tens n j) k 0 ≡ 10 ^ (j + k)
 unfolding tens
 tens-at zero j k h = absurd (not-suc-le-zero h)
 tens-at (suc n) j zero h = ap (λ m. 10 ^ m) (omega arith)

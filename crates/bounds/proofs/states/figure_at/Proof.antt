@@ -9,7 +9,7 @@ quantity-at-requires : tie.Need-quantity-at-requires
 quantity-at-requires c κs = search needs
 
 of-quantity-requires : tie.Need-of-quantity-requires
-of-quantity-requires c κs = rw (c .quantity-at .ensures) (c .before .before .pre, omega arith)
+of-quantity-requires c κs = rw (c .quantity-at .ensures) (omega arith)
 
 returns : tie.Need-returns
 returns c = rw (c .before .quantity-at .ensures) at (c .of-quantity .ensures)
