@@ -7,20 +7,25 @@ use native.Mathlib.Nat.{le-trans}
 use native.Mathlib.Omega.{arith}
 use lib.Dec.{eqb, lit≤}
 use lib.ListN.{length, getD, take, drop}
+use borrow.Author.Tests.{eqb-false}
 use Rattle.figure.specs.declared.Figure.{Figure}
 use Rattle.figure.specs.Operands.{Sized}
-use Rattle.model.specs.Model.{Manner, Transition, is-fast, exits, has-fast}
+use Rattle.figure.specs.Rounding.{none}
+use Rattle.model.specs.Model.{Manner, slow, Transition, is-fast, exits, has-fast}
 use Rattle.model.specs.Words.{kind, from-field, coefficient-field, quantity}
 use Rattle.model.specs.Index.{transition-at, Stands, no-transition, transition}
-use Rattle.model.proofs.Valid.{ValidManner, ValidTransition}
+use Rattle.model.proofs.Valid.{InRange, ValidManner, ValidTransition}
 use Rattle.model.proofs.Members.{each-lookup}
-use Rattle.model.proofs.Slots.{stands-inside, stands-from, stands-fast}
+use Rattle.model.proofs.Slots.{stands-inside, stands-from, stands-fast, stands-slow-manner}
 use Rattle.tree.specs.States.{mission-time, figure-of, rate-sum, mean-down, moment-sum}
 use Rattle.tree.proofs.Positive.{Above, mean-down-zero-iff, mean-down-above}
 use Rattle.tree.proofs.Divisors.{time-above}
 use Rattle.tree.proofs.Ranges.{rate-sum-sized, mean-down-sized, moment-sum-sized, mission-time-sized}
 use Rattle.bounds.specs.Tables.{StandsFirst, StatesHold, StepReady, unpacked, described, net-of}
-use Rattle.bounds.proofs.Firsts.{stands-first, part-manner}
+use Rattle.bounds.specs.declared.steps.Step.{Step}
+use Rattle.bounds.specs.Steps.{class2-step-of, class3-step-of, step-of}
+use Rattle.bounds.proofs.Firsts.{SlowRead, word-from, word-is, stands-first, part-manner}
+use Rattle.bounds.proofs.StepLaws.{fast-step, slow-step, lone-step}
 
 module _ {ws places rates floors moments : List ℕ} {time : Figure} (h : StepReady ws places rates floors moments time) where
   pub time-in-range : Sized 9 40 time
@@ -102,3 +107,39 @@ module _ {ws places rates floors moments : List ℕ} {time : Figure} (h : StepRe
             go true k = refl
             go false k = absurd (n (ap (λ (f : Figure). f .digits) (floor-is e)
                 ∙ mean-down-zero-iff (h .valid) ((transition (net-of ws) j) .from) .1 k))
+
+      -- a slow one's rate, from the word behind
+
+      module _ (test : eqb (kind (getD ws place 0)) 7 ≡ false) where
+        slow-is : (transition (net-of ws) j) .manner ≡ slow (quantity (getD ws (place + 1) 0))
+        slow-is = stands-slow-manner step-stands (eqb-false (kind (getD ws place 0)) 7 test)
+
+        slow-valid : InRange 1 20 (quantity (getD ws (place + 1) 0))
+        unfolding ValidManner
+        slow-valid = rw slow-is at (step-valid .manner)
+
+        pub rate-low : coefficient-field (word-from ws (place + 1)) < 1000000
+        rate-low = rw (word-is ws (place + 1)) (omega (arith, slow-valid .high))
+
+        pub rate-read : {r : Figure} → r ≡ figure-of (quantity (word-from ws (place + 1))) → SlowRead ((transition (net-of ws) j) .manner) r
+        rate-read e = record { rate = quantity (getD ws (place + 1) 0); manner = slow-is; valid = slow-valid; rate-is = rw (word-is ws (place + 1)) at e }
+
+      -- what was worked out is the transition's step
+
+      module _ {s : ℕ} (origin : s ≡ from-field (getD ws place 0)) {rate : Figure} (rate-at : rate ≡ unpacked (getD rates s 0)) where
+        pub found-fast : eqb (kind (getD ws place 0)) 7 ≡ true → {x : Step}
+            → x ≡ class2-step-of rate time ((transition-at (take (length ws - place) (drop place ws))) .manner)
+            → x ≡ step-of (net-of ws) (transition (net-of ws) j)
+        found-fast test e = e ∙ rw (rate-is origin rate-at, h .time-is, step-manner) (fast-step (net-of ws) (transition (net-of ws) j) (step-fast ∙ test))
+
+        module _ (test : eqb (kind (getD ws place 0)) 7 ≡ false) {floor : Figure} (floor-at : floor ≡ unpacked (getD floors s 0)) where
+          pub found-lone : floor .digits ≡ 0 → {r f : Figure} → r ≡ figure-of (quantity (word-from ws (place + 1))) → f ≡ none
+              → _≡_ {A = Step} (record { share = r; grains = 0; factor = f }) (step-of (net-of ws) (transition (net-of ws) j))
+          found-lone z e n = lone-step (net-of ws) (transition (net-of ws) j) (step-fast ∙ test) (floor-none origin floor-at z) (rate-read test e) n
+
+          pub found-slow : (floor .digits ≡ 0 → ⊥) → {moment : Figure} → moment ≡ unpacked (getD moments s 0) → {x : Step}
+              → x ≡ class3-step-of rate floor moment time ((transition-at (take (length ws - place) (drop place ws))) .manner)
+              → x ≡ step-of (net-of ws) (transition (net-of ws) j)
+          found-slow n moment-at e =
+              e ∙ rw (rate-is origin rate-at, floor-is origin floor-at, moment-is origin moment-at, h .time-is, step-manner)
+              (slow-step (net-of ws) (transition (net-of ws) j) (step-fast ∙ test) (floor-some origin floor-at n))
