@@ -1,10 +1,13 @@
+-- `walk` meets its contract. The steps that the path may still take fall at each call; the loop keeps, at each exit, that the totals so far with
+-- the visits still to make come to the totals of all. Assumes nothing.
 use Prim.Native.Nat.{ℕ, _<_, _≤_, _-_}
 use mathlib.Core.Path.{_≡_, sym, _∙_}
 use mathlib.Core.Logic.{⊎-elim}
 use native.Mathlib.Omega.{arith}
 use lib.ListN.{length, getD}
 use borrow.Author.Needs.{needs}
-use Rattle.bounds.proofs.Loop.{AtExit, exit-same, state-small, room, loop-start, loop-end, loop-over, steps-few, exit-ready, Turn, Visited, there-small, judge-figures, last-step, note-figures, visit-ended, before-fits, ready-there, visit-over, visit-back}
+use Rattle.bounds.proofs.Loop.{AtExit, exit-same, state-small, room, exit-ready, loop-start, steps-few, loop-end, loop-over}
+use Rattle.bounds.proofs.Turns.{Turn, Visited, there-small, judge-figures, last-step, note-figures, visit-ended, before-fits, ready-there, visit-over, visit-back}
 use borrow.Fn.Kinds.{In}
 use borrow.Fn.PlainCycle.{Measures, is, falls, and}
 use Rattle.bounds.proofs.walk.walk.Reads as walk
