@@ -15,7 +15,7 @@ use Rattle.model.specs.Index.{Stands, no-transition, transition}
 use Rattle.model.proofs.Valid.{ValidTransition, Valid}
 use Rattle.model.proofs.Members.{each-lookup}
 use Rattle.model.proofs.Slots.{word, stands-from, stands-fast, stands-inside}
-use Rattle.tree.specs.Paths.{Class, class1, class2, class3, class-of, class}
+use Rattle.tree.specs.Paths.{Class, class1, class2, class3, class-of, class, counts-1}
 use Rattle.tree.proofs.Positive.{mean-up-zero-iff}
 use Rattle.bounds.specs.Tables.{Classed, StatesHold, unpacked, described, net-of, class-number, class-code}
 use Rattle.bounds.specs.Deaths.{step-class}
@@ -30,8 +30,14 @@ number-one class3 e = absurd (omega arith)
 pub number-other : (c : Class) → (class-number c ≡ 1 → ⊥) → c ≡ class1 → ⊥
 number-other c h e = h (ap class-number e)
 
+pub counts-none : (c : Class) → (c ≡ class1 → ⊥) → counts-1 c ≡ 0
+counts-none class1 h = absurd (h refl)
+counts-none class2 h = refl
+counts-none class3 h = refl
+
 -- the class by whether the transition is fast and whether h is 0, which it is exactly if the state has no fast exits
-pub code-is : (b : Bool) (d : ℕ) (some : Bool) (x : Manner) → is-fast x ≡ b → ((d ≡ 0) ↔ (some ≡ false)) → class-code b d ≡ class-number (class-of some x)
+pub code-is : (b : Bool) (d : ℕ) (some : Bool) (x : Manner) → is-fast x ≡ b → ((d ≡ 0) ↔ (some ≡ false))
+    → class-code b d ≡ class-number (class-of some x)
 code-is false zero true (slow r) e h = absurd (true≢false (h .0 refl))
 code-is false zero false (slow r) e h = refl
 code-is false (suc d) true (slow r) e h = refl
@@ -88,22 +94,20 @@ module _ {ws places means : List ℕ} (classed : Classed ws places means) {j : �
       (ap (λ (i : ℕ). unpacked (getD means i 0)) e ∙ classed .means-are ((transition (net-of ws) j) .from) origin-low origin-high)
       ∙ code-is _ _ _ ((transition (net-of ws) j) .manner) (stands-fast stands) (mean-up-zero-iff (classed .valid) ((transition (net-of ws) j) .from))
 
-  -- the same of what the code has read: the word's place, the state that is left and whether the word is a fast one's
+  -- what a table has of the state that is left
+  pub state-holds : (f : ℕ → Figure) (table : List ℕ) {s : ℕ} {r : Figure} → StatesHold f ((described ws) .states) table
+      → s ≡ (transition (net-of ws) j) .from → r ≡ unpacked (getD table s 0) → r ≡ f ((transition (net-of ws) j) .from)
+  state-holds f table h e r-is =
+      r-is ∙ ap (λ (i : ℕ). unpacked (getD table i 0)) e ∙ h ((transition (net-of ws) j) .from) origin-low origin-high
+
+  -- the state and the class, of the word's place and what the code has read there
 
   module _ {at s : ℕ} (at-is : at ≡ getD places j 0) (s-is : s ≡ from-field (getD ws at 0)) where
-    pub left-is : s ≡ (transition (net-of ws) j) .from
-    left-is = s-is ∙ ap (λ (a : ℕ). from-field (getD ws a 0)) at-is ∙ origin-is
+    pub state-read : s ≡ (transition (net-of ws) j) .from
+    state-read = s-is ∙ ap (λ (a : ℕ). from-field (getD ws a 0)) at-is ∙ origin-is
 
-    pub left-small : s < 1001
-    left-small = rw left-is origin-small
-
-    -- what a table has of the state that is left
-    pub left-holds : (f : ℕ → Figure) (table : List ℕ) {r : Figure} → StatesHold f ((described ws) .states) table → r ≡ unpacked (getD table s 0)
-        → r ≡ f ((transition (net-of ws) j) .from)
-    left-holds f table h r-is = r-is ∙ ap (λ (i : ℕ). unpacked (getD table i 0)) left-is ∙ h ((transition (net-of ws) j) .from) origin-low origin-high
-
-    pub left-class : {b : Bool} {r : ℕ} → b ≡ eqb (kind (getD ws at 0)) 7 → r ≡ class-code b ((unpacked (getD means s 0)) .digits)
+    pub code-read : {b : Bool} {r : ℕ} → b ≡ eqb (kind (getD ws at 0)) 7 → r ≡ class-code b ((unpacked (getD means s 0)) .digits)
         → r ≡ class-number (step-class (net-of ws) j)
-    left-class {b} b-is r-is =
+    code-read {b} b-is r-is =
         r-is ∙ ap (λ (b : Bool). class-code b ((unpacked (getD means s 0)) .digits)) (b-is ∙ ap (λ (a : ℕ). eqb (kind (getD ws a 0)) 7) at-is)
-        ∙ class-read s left-is
+        ∙ class-read s state-read

@@ -6,7 +6,7 @@ use mathlib.Core.List.{List, [], _∷_}
 use native.Mathlib.Nat.{le-of-lt}
 use native.Mathlib.Omega.{arith}
 use lib.Dec.{lit≤}
-use lib.ListN.{length, getD}
+use lib.ListN.{length}
 use lib.IntN.{ℤ, negsuc}
 use borrow.Author.Tests.{eq-eqb, ne-eqb, le-leb, lt-leb, leb-true, leb-false}
 use Rattle.figure.specs.declared.Figure.{Figure}
@@ -16,7 +16,7 @@ use Rattle.figure.specs.Operations.{times-up, times-down, minus-down, divided-u
 use Rattle.figure.proofs.Sized.{sized-≤}
 use Rattle.model.specs.Model.{Transition, Net, Model}
 use Rattle.model.specs.Index.{transition}
-use Rattle.model.proofs.Valid.{Each, Valid}
+use Rattle.model.proofs.Valid.{Valid}
 use Rattle.tree.specs.Paths.{Path, Class, class1, class2, class3, class, counts-1, class1-count}
 use Rattle.tree.specs.States.{mission-time}
 use Rattle.tree.specs.Upper.{share}
@@ -24,12 +24,12 @@ use Rattle.tree.specs.Grains.{grains, grain-sum}
 use Rattle.tree.specs.Lower.{lower-product, path-rate-sum, remaining-time, last-factor, lower-with, lower}
 use Rattle.tree.proofs.Steps.{class1-count-more, grains-any, lower-grains, lower-full, lower-else}
 use Rattle.tree.proofs.RemainingTime.{remaining-time-down, remaining-time-up}
-use Rattle.tree.proofs.Ranges.{class1-count-≤, time-down-sized, last-sized, lower-sized}
+use Rattle.tree.proofs.Ranges.{class1-count-≤, time-down-sized, last-sized}
 use Rattle.bounds.specs.declared.lower.Shared.{Shared}
-use Rattle.bounds.specs.Tables.{Classed, StatesHold, unpacked, described, net-of, class-number, step-factor}
+use Rattle.bounds.specs.Tables.{Classed, net-of, class-number, step-factor}
 use Rattle.bounds.specs.Deaths.{path-of, Known, LastStep, own-grains, last-by, SharedAt, SharedBy, SharedSized, death-lower}
-use Rattle.bounds.proofs.Classes.{step-valid, number-one, number-other, origin-low, origin-high, origin-small}
-use Rattle.bounds.proofs.PathLowers.{path-length, path-valid, SpentOn, Multiplied, multiplied-one, multiplied-other, multiplied-sized}
+use Rattle.bounds.proofs.Classes.{counts-none, number-one, number-other, origin-small}
+use Rattle.bounds.proofs.PathLowers.{path-length, SpentOn, Multiplied, multiplied-one, multiplied-other, multiplied-sized}
 
 -- ---- the cases of the lower
 
@@ -50,7 +50,8 @@ module _ (c : Shared) (x : ℕ) (s f : Figure) (k : ℕ) where
 -- ---- what deaths share, as it is worked out
 
 -- a product times a power of ten, of operands that are known
-pub scaled : (op : Figure → Figure → Figure) (q : ℤ) {r f a b x y : Figure} → r ≡ times-ten f q → f ≡ op a b → a ≡ x → b ≡ y → r ≡ times-ten (op x y) q
+pub scaled : (op : Figure → Figure → Figure) (q : ℤ) {r f a b x y : Figure}
+    → r ≡ times-ten f q → f ≡ op a b → a ≡ x → b ≡ y → r ≡ times-ten (op x y) q
 scaled op q h k d e = rw (h, k, d, e)
 
 -- N' fills the mission time
@@ -172,12 +173,6 @@ module _ {ws places means l : List ℕ} {d k x s j : ℕ} (classed : Classed ws 
   pub last-small : s < 1001
   last-small = rw (last .leaves) (origin-small classed (last .index))
 
-  -- what a table has of the state that is left
-  pub last-holds : (f : ℕ → Figure) (table : List ℕ) {r : Figure} → StatesHold f ((described ws) .states) table → r ≡ unpacked (getD table s 0)
-      → r ≡ f (step .from)
-  last-holds f table h e =
-      e ∙ ap (λ (i : ℕ). unpacked (getD table i 0)) (last .leaves) ∙ h (step .from) (origin-low classed (last .index)) (origin-high classed (last .index))
-
   pub last-one : x ≡ 1 → class net step ≡ class1
   last-one e = number-one _ (sym (last .class-is) ∙ e)
 
@@ -190,12 +185,7 @@ module _ {ws places means l : List ℕ} {d k x s j : ℕ} (classed : Classed ws 
   count-one e = omega (arith, last .ones-are, ap counts-1 (last-one e), class1-count-more net step (path-of net l d))
 
   pub count-other : (x ≡ 1 → ⊥) → k ≡ class1-count net (step ∷ path-of net l d)
-  count-other h = omega (arith, last .ones-are, none-counted (class net step) (last-other h), class1-count-more net step (path-of net l d))
-    where
-      none-counted : (c : Class) → (c ≡ class1 → ⊥) → counts-1 c ≡ 0
-      none-counted class1 h = absurd (h refl)
-      none-counted class2 h = refl
-      none-counted class3 h = refl
+  count-other h = omega (arith, last .ones-are, counts-none (class net step) (last-other h), class1-count-more net step (path-of net l d))
 
   pub count-high : k < 24
   count-high = omega (arith, last .ones-are, class1-count-≤ net (path-of net l d), path-length net l d, last .room)
@@ -209,9 +199,3 @@ module _ {ws places means l : List ℕ} {d k x s j : ℕ} (classed : Classed ws 
       → r ≡ lower net (step ∷ path-of net l d)
   death-at shared f-is g-is r-is =
       rw (r-is, f-is, g-is, last .class-is) (death-is step (rw (last .leaves) at shared) (λ h. count-one (last .class-is ∙ ap class-number h)))
-
-  pub death-sized : Sized 9 35000 (lower net (step ∷ path-of net l d))
-  unfolding Each
-  death-sized =
-      sized-≤ (lit≤ tt) (lower-sized (classed .valid) (step ∷ path-of net l d) (omega (arith, path-length net l d, last .room))
-      (step-valid (classed .valid) (last .index) .manner, path-valid (classed .valid) l d (last .known)))

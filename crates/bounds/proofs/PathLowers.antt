@@ -26,7 +26,7 @@ use Rattle.tree.proofs.Ranges.{none-sized, class2-factor-sized, class3-factor-s
 use Rattle.tree.proofs.Steps.{class1-count-start, class1-count-more, grain-sum-start, grain-sum-more, lower-product-start, lower-product-more, path-rate-sum-start, path-rate-sum-more}
 use Rattle.bounds.specs.Tables.{GrainsHold, step-factor}
 use Rattle.bounds.specs.Deaths.{path-of, Known, own-grains}
-use Rattle.bounds.proofs.Classes.{step-valid}
+use Rattle.bounds.proofs.Classes.{step-valid, counts-none}
 
 -- ---- the path of an array's first entries
 
@@ -139,18 +139,13 @@ module _ {net : Net} {t : Figure} {p : Path} {k : ℕ} {f : Figure} (x : Transit
   pub multiplied-other : {y : Figure} → (class net x ≡ class1 → ⊥) → y ≡ step-factor net (class net x) x → Multiplied net t (x ∷ p) k (times-down f y)
   unfolding lower-step step-factor
   multiplied-other {y} c h = record {
-    ones-are = omega (arith, so-far .ones-are, counts-other (class net x) c, class1-count-more net x p);
+    ones-are = omega (arith, so-far .ones-are, counts-none (class net x) c, class1-count-more net x p);
     product-is =
         ap (λ (g : Figure). times-down g y) (so-far .product-is) ∙ ap (times-down (lower-product net (own-grains net) t p)) h
         ∙ factor-other (class net x) c
         ∙ sym (lower-product-more net x p (own-grains net) t);
   }
     where
-      counts-other : (c : Class) → (c ≡ class1 → ⊥) → counts-1 c ≡ 0
-      counts-other class1 h = absurd (h refl)
-      counts-other class2 h = refl
-      counts-other class3 h = refl
-
       factor-other : (c : Class) → (c ≡ class1 → ⊥)
           → times-down (lower-product net (own-grains net) t p) (step-factor net c x)
           ≡ lower-step net t c (class1-count net (x ∷ p)) (own-grains net x) x (lower-product net (own-grains net) t p)

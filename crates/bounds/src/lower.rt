@@ -31,6 +31,24 @@ pub(crate) fn class_of(fast: bool, mean: u64) -> u8
     3
 }
 
+// The class of a step, and the state that it leaves.
+pub struct Leaving {
+    pub class: u8,
+    pub state: usize,
+}
+
+// Those of the transition j.
+fn left_by(words: &[u32], places: &[u16; 4000], means: &[u64; 1001], j: usize) -> Leaving
+    requires { ⌜ Classed (now words) (now places) (now means) × (j < length (net-of (now words) .table)) ⌝ }
+    ensures { λ r. ⌜ r .class ≡ tables.class-number (step-class (net-of (now (words .entry))) j) ⌝ }
+    ensures { λ r. ⌜ r .state ≡ (transition (net-of (now (words .entry))) j) .from ⌝ }
+{
+    let w = words[wide(places[j])];
+    let state = origin(w);
+    let class = class_of(is_fast(w), means[state]);
+    Leaving { class, state }
+}
+
 // N' and A of a path.
 pub struct Spent {
     pub grains: u64,
@@ -58,9 +76,9 @@ fn spent_on(
     let mut i = 0;
     while i < len {
         let j = wide(path[i]);
-        let w = words[wide(places[j])];
-        let s = origin(w);
-        if class_of(is_fast(w), means[s]) == 1 {
+        let step = left_by(words, places, means, j);
+        if step.class == 1 {
+            let s = step.state;
             a = a.plus_up(unpack(rates[s]));
         } else {
             n = n + grains[j] as u64;
@@ -94,9 +112,8 @@ fn product(
     let mut i = 0;
     while i < len {
         let j = wide(path[i]);
-        let w = words[wide(places[j])];
-        let s = origin(w);
-        if class_of(is_fast(w), means[s]) == 1 {
+        let step = left_by(words, places, means, j);
+        if step.class == 1 {
             k += 1;
             p = p.times_down(unpack(shares[j]))
                 .times_down(t)

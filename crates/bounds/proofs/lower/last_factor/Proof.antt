@@ -34,7 +34,8 @@ minus-down-requires c κs =
     let p = c .before .before .before .before .pre in (
       rw (c .of-whole2 .ensures) (sized-≤ (lit≤ tt) (of-whole-sized 1 (lit≤ tt))),
       rw (c .before .divided-up .ensures, c .before .before .of-whole .ensures, c .before .before .before .times-up .ensures)
-          (sized-≤ (lit≤ tt) (divided-up-sized (times-up-sized (p .0) (p .1)) (count-sized _ (le-trans {m = 25} (omega (arith, p .2)) (lit≤ tt))) (of-whole-above _ (omega arith)))),
+          (sized-≤ (lit≤ tt) (divided-up-sized (times-up-sized (p .0) (p .1)) (count-sized _ (le-trans {m = 25} (omega (arith, p .2)) (lit≤ tt)))
+          (of-whole-above _ (omega arith)))),
     )
 
 returns : tie.Need-returns

@@ -47,13 +47,16 @@ times-down-requires-3 c κs =
 
 returns-2 : tie.Need-returns-2
 returns-2 c =
+    let d = c .before .before .before .before in
+    let one = d .before in
+    let rest = one .before .before .before .before in
     rw (
       c .times-down3 .ensures,
       c .before .divided-down .ensures,
       c .before .before .of-whole .ensures,
       c .before .before .before .times-down2 .ensures,
-      c .before .before .before .before .times-down .ensures,
-    ) (sym (lower-one _ _ _ _ _ (c .before .before .before .before .before .before .before .before .before .if1 .left) (c .before .before .before .before .before .if2 .taken)))
+      d .times-down .ensures,
+    ) (sym (lower-one _ _ _ _ _ (rest .if1 .left) (one .if2 .taken)))
 
 times-down-requires-4 : tie.Need-times-down-requires-4
 times-down-requires-4 c κs = search needs
@@ -65,7 +68,9 @@ times-down-requires-5 c κs =
 
 returns-3 : tie.Need-returns-3
 returns-3 c =
-    rw (c .times-down5 .ensures, c .before .times-down4 .ensures) (sym (lower-other _ _ _ _ _ (c .before .before .before .before .before .before .if1 .left) (c .before .before .if2 .left)))
+    let other = c .before .before in
+    let rest = other .before .before .before .before in
+    rw (c .times-down5 .ensures, c .before .times-down4 .ensures) (sym (lower-other _ _ _ _ _ (rest .if1 .left) (other .if2 .left)))
 
 pub lower-of-spec : {M : Type 1} → statement M
 lower-of-spec =

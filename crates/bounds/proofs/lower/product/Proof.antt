@@ -17,7 +17,7 @@ use Rattle.tree.proofs.Positive.{of-whole-above}
 use Rattle.tree.proofs.Ranges.{count-sized, share-sized}
 use Rattle.bounds.specs.Tables.{Classed, net-of, class-number, step-factor}
 use Rattle.bounds.specs.Deaths.{path-of, Known, step-class}
-use Rattle.bounds.proofs.Classes.{step-valid, index-small, place-inside, left-small, left-class, number-one, number-other}
+use Rattle.bounds.proofs.Classes.{step-valid, index-small, number-one, number-other}
 use Rattle.bounds.proofs.PathLowers.{path-none, path-more, known-less, Multiplied, multiplied-start, multiplied-one, multiplied-other, multiplied-sized, ones-high, step-factor-sized}
 use Rattle.bounds.proofs.lower.product.Statement.{statement}
 use Rattle.bounds.proofs.lower.product.Tie as tie
@@ -57,24 +57,16 @@ more-ones c = omega (arith, ones-high (classed c .valid) (so-far-known c) (c .be
 index : (c : tie.After-wide Inv-loop μ-loop) → c .wide .result < length (net (c .before) .table)
 index c = rw (c .wide .ensures .0) (known (c .before) .inside _ (c .before .loop-test .taken))
 
-origin-small : (c : tie.After-origin Inv-loop μ-loop) → c .origin .result < 1001
-origin-small c =
-    let at = c .before .before in
-    let j = at .before .before in
-    left-small (classed (j .before)) (index j) (at .wide2 .ensures .0) (c .origin .ensures .0)
+-- from where its class is known
+abbrev index-place : tie.After-struct-known Inv-loop μ-loop → tie.After-wide Inv-loop μ-loop
+index-place c = c .before .before
 
--- from where the class is known
-abbrev index-place : tie.After-class-of Inv-loop μ-loop → tie.After-wide Inv-loop μ-loop
-index-place c = c .before .before .before .before .before .before .before
-
-abbrev turn : tie.After-class-of Inv-loop μ-loop → tie.In-loop Inv-loop μ-loop
+abbrev turn : tie.After-struct-known Inv-loop μ-loop → tie.In-loop Inv-loop μ-loop
 turn c = index-place c .before
 
-class-at : (c : tie.After-class-of Inv-loop μ-loop) → c .class-of .result ≡ class-number (step-class (net (turn c)) (index-place c .wide .result))
-class-at c =
-    let state = c .before .before .before in
-    left-class (classed (turn c)) (index (index-place c)) (state .before .before .wide2 .ensures .0) (state .origin .ensures .0)
-    (c .before .before .is-fast .ensures) (c .class-of .ensures)
+class-at : (c : tie.After-struct-known Inv-loop μ-loop)
+    → c .before .left-by .result .class ≡ class-number (step-class (net (turn c)) (index-place c .wide .result))
+class-at c = c .before .left-by .ensures .0
 
 share-at : (c : tie.After-unpack Inv-loop μ-loop)
     → let d = c .before .before .before in c .unpack .result ≡ share ((transition (net (turn d)) (index-place d .wide .result)) .manner)
@@ -89,7 +81,7 @@ share-at-sized c =
 
 factor-at : (c : tie.After-unpack2 Inv-loop μ-loop)
     → let d = c .before .before .before in
-      let t = transition (net (turn d)) (index-place d .wide .result) in c .unpack2 .result ≡ step-factor (net (turn d)) (class (net (turn d)) t) t
+    let t = transition (net (turn d)) (index-place d .wide .result) in c .unpack2 .result ≡ step-factor (net (turn d)) (class (net (turn d)) t) t
 factor-at c =
     let d = c .before .before .before in
     c .unpack2 .ensures ∙ start (turn d) .pre .1 .1 (index-place d .wide .result) (index (index-place d))
@@ -111,37 +103,8 @@ array-read-wide c = omega (arith, known c .short)
 wide-requires : tie.Need-wide-requires Inv-loop μ-loop
 wide-requires c κs = search needs
 
-mul-wide-2 : tie.Need-mul-wide-2 Inv-loop μ-loop
-mul-wide-2 c = omega arith
-
-element-copy-out-wide : tie.Need-element-copy-out-wide Inv-loop μ-loop
-element-copy-out-wide c = index-small (classed (c .before) .valid) (index c)
-
-wide-requires-2 : tie.Need-wide-requires-2 Inv-loop μ-loop
-wide-requires-2 c κs = search needs
-
-mul-w : tie.Need-mul-w Inv-loop μ-loop
-mul-w c = omega arith
-
-shared-slice-read-w : tie.Need-shared-slice-read-w Inv-loop μ-loop
-shared-slice-read-w c =
-    let j = c .before .before .before in
-    rw (c .before .wide2 .ensures .0) (place-inside (classed (j .before)) (index j))
-
-origin-requires : tie.Need-origin-requires Inv-loop μ-loop
-origin-requires c κs = search needs
-
-is-fast-requires : tie.Need-is-fast-requires Inv-loop μ-loop
-is-fast-requires c κs = search needs
-
-mul-class-of : tie.Need-mul-class-of Inv-loop μ-loop
-mul-class-of c = omega (arith, c .before .origin .ensures .1)
-
-element-copy-out-class-of : tie.Need-element-copy-out-class-of Inv-loop μ-loop
-element-copy-out-class-of c = origin-small (c .before)
-
-class-of-requires : tie.Need-class-of-requires Inv-loop μ-loop
-class-of-requires c κs = search needs
+left-by-requires : tie.Need-left-by-requires Inv-loop μ-loop
+left-by-requires c κs = (classed (c .before), index c)
 
 add-k : tie.Need-add-k Inv-loop μ-loop
 add-k c = omega (arith, more-ones (turn (c .before)))
@@ -170,8 +133,7 @@ of-whole-requires-2 c κs = search needs
 divided-down-requires : tie.Need-divided-down-requires Inv-loop μ-loop
 divided-down-requires c κs =
     let u = c .before .before .before in
-    let d = turn (u .before .before .before) in
-    (
+    let d = turn (u .before .before .before) in (
       rw (c .before .times-down2 .ensures, c .before .before .times-down .ensures)
           (sized-≤ (lit≤ tt) (times-down-sized (times-down-sized (so-far-sized d) (share-at-sized u)) (start d .pre .0 .2))),
       rw (c .of-whole2 .ensures) (sized-≤ (lit≤ tt) (count-sized _ (le-trans {m = 24} (omega (arith, more-ones d)) (lit≤ tt)))),
@@ -190,8 +152,7 @@ unpack-requires-2 c κs = search needs
 times-down-requires-3 : tie.Need-times-down-requires-3 Inv-loop μ-loop
 times-down-requires-3 c κs =
     let d = c .before .before .before in
-    let valid = classed (turn d) .valid in
-    (
+    let valid = classed (turn d) .valid in (
       sized-≤ (lit≤ tt) (so-far-sized (turn d)),
       rw (factor-at c) (sized-≤ (lit≤ tt) (step-factor-sized valid _ (step-valid valid (index (index-place d)) .manner))),
     )
@@ -206,16 +167,15 @@ loop-again : tie.Need-loop-again Inv-loop μ-loop
 loop-again c =
     let d = c .before in
     let at = turn d in
-    let so-far = at .before .loop .inv .1 in
-    (
+    let so-far = at .before .loop .inv .1 in (
       omega (arith, at .loop-test .taken),
       rw (path-more (net at) (start at .args .t6) (at .before .loop .i) (index-place d .wide .ensures .0)) (⊎-elim
           (λ w. rw (w .7, w .8, w .6 .ensures, w .5 .ensures, w .4 .ensures, w .3 .ensures)
-              (multiplied-one _ so-far (number-one _ (sym (class-at d) ∙ w .0 .taken))
-              (share-at (record { before = record { before = record { before = d; if1 = w .0 }; unpack-arg = w .1 }; unpack = w .2 }))))
+          (multiplied-one _ so-far (number-one _ (sym (class-at d) ∙ w .0 .taken))
+          (share-at (record { before = record { before = record { before = d; if1 = w .0 }; unpack-arg = w .1 }; unpack = w .2 }))))
           (λ w. rw (w .4, w .5, w .3 .ensures)
-              (multiplied-other _ so-far (number-other _ (λ e. w .0 .left (class-at d ∙ e)))
-              (factor-at (record { before = record { before = record { before = d; if1 = w .0 }; unpack-arg2 = w .1 }; unpack2 = w .2 }))))
+          (multiplied-other _ so-far (number-other _ (λ e. w .0 .left (class-at d ∙ e)))
+          (factor-at (record { before = record { before = record { before = d; if1 = w .0 }; unpack-arg2 = w .1 }; unpack2 = w .2 }))))
           (c .if1 .came)),
     )
 
@@ -235,16 +195,7 @@ product-spec =
     mul-wide
     array-read-wide
     wide-requires
-    mul-wide-2
-    element-copy-out-wide
-    wide-requires-2
-    mul-w
-    shared-slice-read-w
-    origin-requires
-    is-fast-requires
-    mul-class-of
-    element-copy-out-class-of
-    class-of-requires
+    left-by-requires
     add-k
     mul-unpack
     element-copy-out-unpack

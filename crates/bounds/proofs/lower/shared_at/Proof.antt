@@ -31,14 +31,14 @@ time-sized c = rw (start c .pre .1 .1 .1 .0) (mission-time-sized (start c .pre .
 
 down-is : (c : tie.After-times-ten)
     → let s = start (c .before .before .before) in
-      c .times-ten .result ≡ times-ten (times-down (mission-time (net-of (s .args .words .now))) (of-whole (1000000 - s .args .n))) (negsuc 5)
+    c .times-ten .result ≡ times-ten (times-down (mission-time (net-of (s .args .words .now))) (of-whole (1000000 - s .args .n))) (negsuc 5)
 down-is c =
     let s = start (c .before .before .before) in
     scaled times-down (negsuc 5) (c .times-ten .ensures) (c .before .times-down .ensures) (s .pre .1 .1 .1 .0) (c .before .before .of-whole .ensures)
 
 up-is : (c : tie.After-times-ten2)
     → let s = start (c .before .before .before .before .before) in
-      c .times-ten2 .result ≡ times-ten (times-up (mission-time (net-of (s .args .words .now))) (of-whole (1000000 - s .args .n))) (negsuc 5)
+    c .times-ten2 .result ≡ times-ten (times-up (mission-time (net-of (s .args .words .now))) (of-whole (1000000 - s .args .n))) (negsuc 5)
 up-is c =
     let s = start (c .before .before .before .before .before) in
     scaled times-up (negsuc 5) (c .times-ten2 .ensures) (c .before .times-up .ensures) (s .pre .1 .1 .1 .0) (c .before .before .before .before .of-whole .ensures)
@@ -69,15 +69,14 @@ zero-requires-3 : tie.Need-zero-requires-3
 zero-requires-3 c κs = search needs
 
 returns : tie.Need-returns
-returns c =
-    (
-      shared-full refl (c .before .before .before .if1 .taken),
-      record {
-        time = rw (c .before .before .zero .ensures) (none-sized 100);
-        product = rw (c .before .zero2 .ensures) (none-sized 30000);
-        last = rw (c .zero3 .ensures) (none-sized 2000);
-      },
-    )
+returns c = (
+  shared-full refl (c .before .before .before .if1 .taken),
+  record {
+    time = rw (c .before .before .zero .ensures) (none-sized 100);
+    product = rw (c .before .zero2 .ensures) (none-sized 30000);
+    last = rw (c .zero3 .ensures) (none-sized 2000);
+  },
+)
 
 sub-of-whole : tie.Need-sub-of-whole
 sub-of-whole c = search needs
@@ -122,9 +121,11 @@ returns-2 : tie.Need-returns-2
 returns-2 c =
     let d = c .before .before .before .before .before .before .before in
     let p = start d .pre in
+    let valid = p .0 .0 .valid in
     let inside : start d .args .n < 1000000 = omega (arith, d .if1 .left) in
-    let shared = shared-rest (p .0 .0 .valid) inside refl (down-is (c .before .before .before .before)) (up-is (c .before .before)) (c .before .product .ensures) (c .last-factor .ensures) in
-    (shared, shared-sized (p .0 .0 .valid) inside (p .0 .1) (p .1 .1 .1 .1) (p .1 .1 .1 .2) refl shared)
+    let above = c .before .before in
+    let shared = shared-rest valid inside refl (down-is (above .before .before)) (up-is above) (c .before .product .ensures) (c .last-factor .ensures) in
+    (shared, shared-sized valid inside (p .0 .1) (p .1 .1 .1 .1) (p .1 .1 .1 .2) refl shared)
 
 pub shared-at-spec : {M : Type 1} → statement M
 shared-at-spec =

@@ -13,8 +13,9 @@ use Rattle.tree.specs.States.{rate-sum}
 use Rattle.tree.proofs.Ranges.{rate-sum-sized}
 use Rattle.bounds.specs.Tables.{Tabled, net-of}
 use Rattle.bounds.specs.Deaths.{path-of, LastStep}
+use Rattle.bounds.proofs.Classes.{state-holds}
 use Rattle.bounds.proofs.PathLowers.{SpentOn, spent-one, spent-other, spent-sized, spent-high, grains-at-high}
-use Rattle.bounds.proofs.Deaths.{shared-by, last-small, last-holds, last-one, last-other, count-one, count-other, count-high, length-high}
+use Rattle.bounds.proofs.Deaths.{shared-by, last-small, last-one, last-other, count-one, count-other, count-high, length-high}
 use Rattle.bounds.proofs.lower.shared_by.Statement.{statement}
 use Rattle.bounds.proofs.lower.shared_by.Tie as tie
 
@@ -26,7 +27,7 @@ start c = c .before .before
 
 tabled : (c : tie.After-spent-on)
     → let a = start c .args in
-      Tabled (a .words .now) (a .places .now) (a .shares .now) (a .grains .now) (a .factors .now) (a .rates .now) (a .means .now)
+    Tabled (a .words .now) (a .places .now) (a .shares .now) (a .grains .now) (a .factors .now) (a .rates .now) (a .means .now)
 tabled c = start c .pre .0
 
 last : (c : tie.After-spent-on) → let a = start c .args in LastStep (net-of (a .words .now)) (a .path) (a .len) (a .k) (a .class) (a .s) (a .j)
@@ -34,7 +35,7 @@ last c = start c .pre .1 .0
 
 so-far : (c : tie.After-spent-on)
     → let a = start c .args in
-      SpentOn (net-of (a .words .now)) (path-of (net-of (a .words .now)) (a .path) (a .len)) (c .spent-on .result .grains) (c .spent-on .result .rates)
+    SpentOn (net-of (a .words .now)) (path-of (net-of (a .words .now)) (a .path) (a .len)) (c .spent-on .result .grains) (c .spent-on .result .rates)
 so-far c = record { grains-are = c .spent-on .ensures .0; rates-are = c .spent-on .ensures .1 }
 
 so-far-sized : (c : tie.After-spent-on) → Sized 9 980 (c .spent-on .result .rates)
@@ -42,10 +43,11 @@ so-far-sized c = spent-sized (tabled c .classed .valid) (last c .known) (so-far 
 
 rate-at : (c : tie.After-unpack)
     → let a = start (c .before .before .before .before) .args in
-      c .unpack .result ≡ rate-sum (net-of (a .words .now)) ((transition (net-of (a .words .now)) (a .j)) .from)
+    c .unpack .result ≡ rate-sum (net-of (a .words .now)) ((transition (net-of (a .words .now)) (a .j)) .from)
 rate-at c =
     let d = c .before .before .before .before in
-    last-holds (tabled d .classed) (last d) (rate-sum (net-of (start d .args .words .now))) (start d .args .rates .now) (tabled d .rates-are) (c .unpack .ensures)
+    state-holds (tabled d .classed) (last d .index) (rate-sum (net-of (start d .args .words .now))) (start d .args .rates .now) (tabled d .rates-are)
+    (last d .leaves) (c .unpack .ensures)
 
 rate-sized : (c : tie.After-unpack) → Sized 9 500 (c .unpack .result)
 rate-sized c = rw (rate-at c) (rate-sum-sized (tabled (c .before .before .before .before) .classed .valid) _)
@@ -80,22 +82,26 @@ add-shared-at c =
 shared-at-requires : tie.Need-shared-at-requires
 shared-at-requires c κs =
     let d = c .before .before .before .before .before in
-    let t = tabled d in
-    (
+    let t = tabled d in (
       (t .classed, last d .known),
-      (t .steps .shares-are, (t .steps .factors-are, (
-        start d .pre .1 .1,
-        rw (c .plus-up .ensures) (plus-up-sized (so-far-sized d) (rate-sized (c .before))),
-        omega (arith, count-high (t .classed) (last d)),
-      ))),
+      (
+        t .steps .shares-are,
+        (
+          t .steps .factors-are,
+          (
+            start d .pre .1 .1,
+            rw (c .plus-up .ensures) (plus-up-sized (so-far-sized d) (rate-sized (c .before))),
+            omega (arith, count-high (t .classed) (last d)),
+          ),
+        ),
+      ),
     )
 
 returns : tie.Need-returns
 returns c =
     let u = c .before .before in
     let d = u .before .before .before .before in
-    let is-one = u .before .before .if1 .taken in
-    (
+    let is-one = u .before .before .if1 .taken in (
       rw (last d .leaves) (shared-by _ (rw (c .before .plus-up .ensures) (spent-one _ (so-far d) (last-one (tabled d .classed) (last d) is-one) (rate-at u)))
           (count-one (tabled d .classed) (last d) is-one) (c .shared-at .ensures .0)),
       c .shared-at .ensures .1,
@@ -119,21 +125,25 @@ add-n c =
 shared-at-requires-2 : tie.Need-shared-at-requires-2
 shared-at-requires-2 c κs =
     let d = c .before .before .before .before in
-    let t = tabled d in
-    (
+    let t = tabled d in (
       (t .classed, last d .known),
-      (t .steps .shares-are, (t .steps .factors-are, (
-        start d .pre .1 .1,
-        sized-≤ (lit≤ tt) (so-far-sized d),
-        omega (arith, count-high (t .classed) (last d)),
-      ))),
+      (
+        t .steps .shares-are,
+        (
+          t .steps .factors-are,
+          (
+            start d .pre .1 .1,
+            sized-≤ (lit≤ tt) (so-far-sized d),
+            omega (arith, count-high (t .classed) (last d)),
+          ),
+        ),
+      ),
     )
 
 returns-2 : tie.Need-returns-2
 returns-2 c =
     let e = c .before .before .before in
-    let d = e .before .before in
-    (
+    let d = e .before .before in (
       rw (last d .leaves) (shared-by _ (spent-other _ (so-far d) (last-other (tabled d .classed) (last d) (e .if1 .left)) (tabled d .steps .grains-are _ (last d .index)))
           (count-other (tabled d .classed) (last d) (e .if1 .left)) (c .shared-at2 .ensures .0)),
       c .shared-at2 .ensures .1,

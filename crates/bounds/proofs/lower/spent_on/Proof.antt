@@ -13,7 +13,7 @@ use Rattle.tree.specs.States.{rate-sum}
 use Rattle.tree.proofs.Ranges.{rate-sum-sized}
 use Rattle.bounds.specs.Tables.{Classed, net-of, class-number}
 use Rattle.bounds.specs.Deaths.{path-of, Known, step-class}
-use Rattle.bounds.proofs.Classes.{index-small, place-inside, left-small, left-holds, left-class, number-one, number-other}
+use Rattle.bounds.proofs.Classes.{index-small, origin-small, state-holds, number-one, number-other}
 use Rattle.bounds.proofs.PathLowers.{path-none, path-more, path-length, known-less, SpentOn, spent-start, spent-one, spent-other, spent-high, spent-sized, grains-at-high}
 use Rattle.bounds.proofs.lower.spent_on.Statement.{statement}
 use Rattle.bounds.proofs.lower.spent_on.Tie as tie
@@ -47,24 +47,16 @@ so-far-short c = omega (arith, path-length (net c) (start c .args .t6) (c .befor
 index : (c : tie.After-wide Inv-loop μ-loop) → c .wide .result < length (net (c .before) .table)
 index c = rw (c .wide .ensures .0) (known (c .before) .inside _ (c .before .loop-test .taken))
 
-origin-small : (c : tie.After-origin Inv-loop μ-loop) → c .origin .result < 1001
-origin-small c =
-    let at = c .before .before in
-    let j = at .before .before in
-    left-small (classed (j .before)) (index j) (at .wide2 .ensures .0) (c .origin .ensures .0)
+-- from where its class is known
+abbrev index-place : tie.After-struct-known Inv-loop μ-loop → tie.After-wide Inv-loop μ-loop
+index-place c = c .before .before
 
--- from where the class is known
-abbrev index-place : tie.After-class-of Inv-loop μ-loop → tie.After-wide Inv-loop μ-loop
-index-place c = c .before .before .before .before .before .before .before
-
-abbrev turn : tie.After-class-of Inv-loop μ-loop → tie.In-loop Inv-loop μ-loop
+abbrev turn : tie.After-struct-known Inv-loop μ-loop → tie.In-loop Inv-loop μ-loop
 turn c = index-place c .before
 
-class-at : (c : tie.After-class-of Inv-loop μ-loop) → c .class-of .result ≡ class-number (step-class (net (turn c)) (index-place c .wide .result))
-class-at c =
-    let state = c .before .before .before in
-    left-class (classed (turn c)) (index (index-place c)) (state .before .before .wide2 .ensures .0) (state .origin .ensures .0)
-    (c .before .before .is-fast .ensures) (c .class-of .ensures)
+class-at : (c : tie.After-struct-known Inv-loop μ-loop)
+    → c .before .left-by .result .class ≡ class-number (step-class (net (turn c)) (index-place c .wide .result))
+class-at c = c .before .left-by .ensures .0
 
 grains-high : (c : tie.After-n Inv-loop μ-loop)
     → let d = c .before .before in getD (start (turn d) .args .grains .now) (index-place d .wide .result) 0 ≤ 1000000
@@ -76,9 +68,11 @@ rate-at : (c : tie.After-unpack Inv-loop μ-loop)
     → let d = c .before .before .before in c .unpack .result ≡ rate-sum (net (turn d)) ((transition (net (turn d)) (index-place d .wide .result)) .from)
 rate-at c =
     let d = c .before .before .before in
-    let state = d .before .before .before in
-    left-holds (classed (turn d)) (index (index-place d)) (state .before .before .wide2 .ensures .0) (state .origin .ensures .0)
-    (rate-sum (net (turn d))) (start (turn d) .args .rates .now) (start (turn d) .pre .1 .1) (c .unpack .ensures)
+    state-holds (classed (turn d)) (index (index-place d)) (rate-sum (net (turn d))) (start (turn d) .args .rates .now) (start (turn d) .pre .1 .1)
+    (d .before .left-by .ensures .1) (c .unpack .ensures)
+
+state-small : (c : tie.After-struct-known Inv-loop μ-loop) → c .before .left-by .result .state < 1001
+state-small c = rw (c .before .left-by .ensures .1) (origin-small (classed (turn c)) (index (index-place c)))
 
 -- ---- the needs
 
@@ -97,43 +91,14 @@ array-read-wide c = omega (arith, known c .short)
 wide-requires : tie.Need-wide-requires Inv-loop μ-loop
 wide-requires c κs = search needs
 
-mul-wide-2 : tie.Need-mul-wide-2 Inv-loop μ-loop
-mul-wide-2 c = omega arith
-
-element-copy-out-wide : tie.Need-element-copy-out-wide Inv-loop μ-loop
-element-copy-out-wide c = index-small (classed (c .before) .valid) (index c)
-
-wide-requires-2 : tie.Need-wide-requires-2 Inv-loop μ-loop
-wide-requires-2 c κs = search needs
-
-mul-w : tie.Need-mul-w Inv-loop μ-loop
-mul-w c = omega arith
-
-shared-slice-read-w : tie.Need-shared-slice-read-w Inv-loop μ-loop
-shared-slice-read-w c =
-    let j = c .before .before .before in
-    rw (c .before .wide2 .ensures .0) (place-inside (classed (j .before)) (index j))
-
-origin-requires : tie.Need-origin-requires Inv-loop μ-loop
-origin-requires c κs = search needs
-
-is-fast-requires : tie.Need-is-fast-requires Inv-loop μ-loop
-is-fast-requires c κs = search needs
-
-mul-class-of : tie.Need-mul-class-of Inv-loop μ-loop
-mul-class-of c = omega (arith, c .before .origin .ensures .1)
-
-element-copy-out-class-of : tie.Need-element-copy-out-class-of Inv-loop μ-loop
-element-copy-out-class-of c = origin-small (c .before)
-
-class-of-requires : tie.Need-class-of-requires Inv-loop μ-loop
-class-of-requires c κs = search needs
+left-by-requires : tie.Need-left-by-requires Inv-loop μ-loop
+left-by-requires c κs = (classed (c .before), index c)
 
 mul-unpack : tie.Need-mul-unpack Inv-loop μ-loop
-mul-unpack c = omega (arith, c .before .before .before .before .origin .ensures .1)
+mul-unpack c = omega (arith, state-small (c .before))
 
 element-copy-out-unpack : tie.Need-element-copy-out-unpack Inv-loop μ-loop
-element-copy-out-unpack c = origin-small (c .before .before .before .before)
+element-copy-out-unpack c = state-small (c .before)
 
 unpack-requires : tie.Need-unpack-requires Inv-loop μ-loop
 unpack-requires c κs = search needs
@@ -141,8 +106,7 @@ unpack-requires c κs = search needs
 plus-up-requires : tie.Need-plus-up-requires Inv-loop μ-loop
 plus-up-requires c κs =
     let at = turn (c .before .before .before) in
-    let so-far = at .before .loop .inv in
-    (
+    let so-far = at .before .loop .inv in (
       sized-≤ (lit≤ tt) (spent-sized (classed at .valid) (known-less _ (so-far .0) (known at)) (so-far .1)),
       rw (rate-at c) (sized-≤ (lit≤ tt) (rate-sum-sized (classed at .valid) _)),
     )
@@ -171,15 +135,14 @@ loop-again : tie.Need-loop-again Inv-loop μ-loop
 loop-again c =
     let d = c .before in
     let at = turn d in
-    let so-far = at .before .loop .inv .1 in
-    (
+    let so-far = at .before .loop .inv .1 in (
       omega (arith, at .loop-test .taken),
       rw (path-more (net at) (start at .args .t6) (at .before .loop .i) (index-place d .wide .ensures .0)) (⊎-elim
           (λ w. rw (w .4, w .5, w .3 .ensures)
-              (spent-one _ so-far (number-one _ (sym (class-at d) ∙ w .0 .taken))
-              (rate-at (record { before = record { before = record { before = d; if1 = w .0 }; unpack-arg = w .1 }; unpack = w .2 }))))
+          (spent-one _ so-far (number-one _ (sym (class-at d) ∙ w .0 .taken))
+          (rate-at (record { before = record { before = record { before = d; if1 = w .0 }; unpack-arg = w .1 }; unpack = w .2 }))))
           (λ w. rw (w .2, w .3)
-              (spent-other _ so-far (number-other _ (λ e. w .0 .left (class-at d ∙ e))) (start at .pre .1 .0 _ (index (index-place d)))))
+          (spent-other _ so-far (number-other _ (λ e. w .0 .left (class-at d ∙ e))) (start at .pre .1 .0 _ (index (index-place d)))))
           (c .if1 .came)),
     )
 
@@ -200,16 +163,7 @@ spent-on-spec =
     mul-wide
     array-read-wide
     wide-requires
-    mul-wide-2
-    element-copy-out-wide
-    wide-requires-2
-    mul-w
-    shared-slice-read-w
-    origin-requires
-    is-fast-requires
-    mul-class-of
-    element-copy-out-class-of
-    class-of-requires
+    left-by-requires
     mul-unpack
     element-copy-out-unpack
     unpack-requires

@@ -23,7 +23,7 @@ start c = c .before .before
 
 tabled : (c : tie.After-shared-for)
     → let a = start c .args in
-      Tabled (a .words .now) (a .places .now) (a .shares .now) (a .grains .now) (a .factors .now) (a .rates .now) (a .means .now)
+    Tabled (a .words .now) (a .places .now) (a .shares .now) (a .grains .now) (a .factors .now) (a .rates .now) (a .means .now)
 tabled c = start c .pre .0
 
 last : (c : tie.After-shared-for) → let a = start c .args in LastStep (net-of (a .words .now)) (a .path) (a .len) (a .k) (a .class) (a .s) (a .j)
@@ -35,7 +35,7 @@ share-at c = let d = c .before .before in c .unpack .ensures ∙ tabled d .steps
 
 factor-at : (c : tie.After-unpack2)
     → let a = start (c .before .before .before .before) .args in
-      let net = net-of (a .words .now) in c .unpack2 .result ≡ step-factor net (class net (transition net (a .j))) (transition net (a .j))
+    let net = net-of (a .words .now) in c .unpack2 .result ≡ step-factor net (class net (transition net (a .j))) (transition net (a .j))
 factor-at c = let d = c .before .before .before .before in c .unpack2 .ensures ∙ tabled d .steps .factors-are (start d .args .j) (last d .index)
 
 shared-for-requires : tie.Need-shared-for-requires
@@ -68,8 +68,7 @@ lower-of-requires : tie.Need-lower-of-requires
 lower-of-requires c κs =
     let d = c .before .before .before .before in
     let valid = tabled d .classed .valid in
-    let step = step-valid valid (last d .index) in
-    (
+    let step = step-valid valid (last d .index) in (
       d .shared-for .ensures .1,
       rw (share-at (c .before .before)) (sized-≤ (lit≤ tt) (share-sized _ (step .manner))),
       rw (factor-at c) (sized-≤ (lit≤ tt) (step-factor-sized valid _ (step .manner))),
@@ -80,8 +79,7 @@ lower-of-requires c κs =
 returns : tie.Need-returns
 returns c =
     let u = c .before .before in
-    let d = u .before .before .before .before in
-    (
+    let d = u .before .before .before .before in (
       death-at (tabled d .classed) (last d) (d .shared-for .ensures .0) (share-at (u .before .before)) (factor-at u) (c .before .lower-of .ensures),
       start d .pre .1 .1,
     )
@@ -89,8 +87,7 @@ returns c =
 returns-2 : tie.Need-returns-2
 returns-2 c =
     let u = c .before .before in
-    let d = u .before .before .before .before in
-    (
+    let d = u .before .before .before .before in (
       death-at (tabled d .classed) (last d) (d .shared-for .ensures .0) (share-at (u .before .before)) (factor-at u) (c .before .lower-of .ensures),
       record {
         shared-is = λ _. serves-kept _ _ (λ e. c .if1 .left (last d .class-is ∙ e)) (last d .leaves) (d .shared-for .ensures .0);

@@ -8,8 +8,7 @@ use Rattle.bounds.proofs.walk.shared_for.Tie as tie
 returns : tie.Need-returns
 returns c =
     let s = c .before .before .before .before in
-    let last = s .pre .1 .0 .0 in
-    (
+    let last = s .pre .1 .0 .0 in (
       kept-serves _ _ (λ e. c .before .before .if1 .taken (last .class-is ∙ e)) (last .leaves) (s .pre .1 .1 .shared-is (c .before .if2 .taken)),
       s .pre .1 .1 .sized,
     )
