@@ -21,7 +21,7 @@ use Rattle.tree.proofs.Going.{Going, Walked, exits-start, exits-end, exit-over}
 use Rattle.bounds.specs.declared.walk.Task.{Task}
 use Rattle.bounds.specs.declared.walk.Tip.{Tip}
 use Rattle.bounds.specs.declared.walk.Totals.{Totals}
-use Rattle.bounds.specs.declared.walk.Cache.{Cache}
+use Rattle.bounds.specs.declared.visit.Cache.{Cache}
 use Rattle.bounds.specs.Tables.{described, net-of}
 use Rattle.bounds.specs.Deaths.{path-of}
 use Rattle.bounds.specs.Walk.{totals-of, Counted, Cached, ExitReady, carried-of, Ready, Ends}

@@ -24,11 +24,11 @@ use Rattle.tree.proofs.Ranges.{any-upper-sized, prune-sized}
 use Rattle.tree.proofs.Tally.{noted, with-visit}
 use Rattle.tree.proofs.Carried.{Carried, Carries, carry, carry-upper, carry-carries, outcome-by, outcome-next, GoesOnBy, continued-by}
 use Rattle.tree.proofs.Going.{Walked, exit-totals, exit-within, exit-ended, exit-back, exit-below-over}
-use Rattle.bounds.specs.declared.walk.Outcome.{Outcome as Coded}
+use Rattle.bounds.specs.declared.visit.Outcome.{Outcome as Coded}
 use Rattle.bounds.specs.declared.walk.Task.{Task}
 use Rattle.bounds.specs.declared.walk.Tip.{Tip}
 use Rattle.bounds.specs.declared.walk.Totals.{Totals}
-use Rattle.bounds.specs.declared.walk.Cache.{Cache}
+use Rattle.bounds.specs.declared.visit.Cache.{Cache}
 use Rattle.bounds.specs.declared.walk.Exit.{Exit}
 use Rattle.bounds.specs.Tables.{described, net-of}
 use Rattle.bounds.specs.Deaths.{path-of, LastStep}

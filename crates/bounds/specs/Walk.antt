@@ -21,12 +21,12 @@ use Rattle.tree.proofs.Outcomes.{decided}
 use Rattle.tree.proofs.Carried.{Carried, Carries}
 use Rattle.tree.proofs.Tally as running
 use Rattle.tree.proofs.Going.{Walked}
-use Rattle.bounds.specs.declared.walk.Outcome.{Outcome as Coded}
-use Rattle.bounds.specs.declared.walk.Outcome.the-variants.{Death, EnteredTooOften, StepLimit, LowLevel, Continued}
+use Rattle.bounds.specs.declared.visit.Outcome.{Outcome as Coded}
+use Rattle.bounds.specs.declared.visit.Outcome.the-variants.{Death, EnteredTooOften, StepLimit, LowLevel, Continued}
 use Rattle.bounds.specs.declared.walk.Task.{Task}
 use Rattle.bounds.specs.declared.walk.Tip.{Tip}
 use Rattle.bounds.specs.declared.walk.Totals.{Totals}
-use Rattle.bounds.specs.declared.walk.Cache.{Cache}
+use Rattle.bounds.specs.declared.visit.Cache.{Cache}
 use Rattle.bounds.specs.declared.walk.Exit.{Exit}
 use Rattle.bounds.specs.Tables.{Indexes, Classed, SharesHold, Tabled, class-number, described, net-of}
 use Rattle.bounds.specs.Deaths.{path-of, Known, step-class, SharedBy, SharedSized}

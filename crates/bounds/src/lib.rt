@@ -27,6 +27,7 @@ mod lower;
 mod pack;
 mod states;
 mod steps;
+mod visit;
 mod walk;
 
 // The lower and the upper figure, the cut paths' part of the upper, and the counts of death paths, cut paths and steps.

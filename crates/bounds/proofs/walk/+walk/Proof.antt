@@ -16,11 +16,11 @@ use Rattle.bounds.proofs.walk.+walk.Lts-walk as walk-lts
 use Rattle.bounds.proofs.states.small.Reads as small-reads
 use Rattle.bounds.proofs.states.wide.Reads as wide-reads
 use Rattle.bounds.proofs.walk.exit_at.Reads as exit-at-reads
-use Rattle.bounds.proofs.walk.is_continued.Reads as is-continued-reads
-use Rattle.bounds.proofs.walk.judge.Reads as judge-reads
-use Rattle.bounds.proofs.walk.no_cache.Reads as no-cache-reads
-use Rattle.bounds.proofs.walk.note.Reads as note-reads
-use Rattle.bounds.proofs.walk.with_step.Reads as with-step-reads
+use Rattle.bounds.proofs.visit.is_continued.Reads as is-continued-reads
+use Rattle.bounds.proofs.visit.judge.Reads as judge-reads
+use Rattle.bounds.proofs.visit.no_cache.Reads as no-cache-reads
+use Rattle.bounds.proofs.visit.note.Reads as note-reads
+use Rattle.bounds.proofs.visit.with_step.Reads as with-step-reads
 use Rattle.bounds.proofs.walk.+walk.{statement}
 use Rattle.bounds.proofs.walk.+walk.Tie.{close}
 

@@ -4,8 +4,8 @@ use native.Mathlib.Omega.{arith}
 use lib.Dec.{lit≤}
 use Rattle.figure.proofs.Sized.{sized-≤}
 use Rattle.bounds.proofs.Counts.{lower-operand, died-operand, death-more}
-use Rattle.bounds.proofs.walk.with_death.Statement.{statement}
-use Rattle.bounds.proofs.walk.with_death.Tie as tie
+use Rattle.bounds.proofs.visit.with_death.Statement.{statement}
+use Rattle.bounds.proofs.visit.with_death.Tie as tie
 
 total-down-requires : tie.Need-total-down-requires
 total-down-requires c κs = let h = c .before .before .before .pre in (lower-operand (h .0) (omega arith), sized-≤ (lit≤ tt) (h .2))

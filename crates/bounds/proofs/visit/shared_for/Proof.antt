@@ -1,9 +1,9 @@
--- `bounds::walk::shared_for` meets its contract: what was kept serves every slow exit of the state. Assumes nothing.
+-- `bounds::visit::shared_for` meets its contract: what was kept serves every slow exit of the state. Assumes nothing.
 use mathlib.Core.Path.{_∙_}
 use borrow.Author.Needs.{needs}
 use Rattle.bounds.proofs.Kept.{kept-serves}
-use Rattle.bounds.proofs.walk.shared_for.Statement.{statement}
-use Rattle.bounds.proofs.walk.shared_for.Tie as tie
+use Rattle.bounds.proofs.visit.shared_for.Statement.{statement}
+use Rattle.bounds.proofs.visit.shared_for.Tie as tie
 
 returns : tie.Need-returns
 returns c =

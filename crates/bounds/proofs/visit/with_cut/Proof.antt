@@ -4,8 +4,8 @@ use native.Mathlib.Omega.{arith}
 use lib.Dec.{lit≤}
 use Rattle.figure.proofs.Sized.{sized-≤}
 use Rattle.bounds.proofs.Counts.{cut-operand, cut-more}
-use Rattle.bounds.proofs.walk.with_cut.Statement.{statement}
-use Rattle.bounds.proofs.walk.with_cut.Tie as tie
+use Rattle.bounds.proofs.visit.with_cut.Statement.{statement}
+use Rattle.bounds.proofs.visit.with_cut.Tie as tie
 
 total-up-requires : tie.Need-total-up-requires
 total-up-requires c κs = let h = c .before .before .before .pre in (cut-operand (h .0) (omega arith), sized-≤ (lit≤ tt) (h .2))

@@ -3,8 +3,8 @@ use mathlib.Core.Path.{sym}
 use mathlib.Core.Bool.{true≢false}
 use borrow.Author.Needs.{needs}
 use Rattle.tree.proofs.Ranges.{none-sized}
-use Rattle.bounds.proofs.walk.no_cache.Statement.{statement}
-use Rattle.bounds.proofs.walk.no_cache.Tie as tie
+use Rattle.bounds.proofs.visit.no_cache.Statement.{statement}
+use Rattle.bounds.proofs.visit.no_cache.Tie as tie
 
 zero-requires : tie.Need-zero-requires
 zero-requires c κs = search needs

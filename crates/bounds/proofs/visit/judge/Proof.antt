@@ -4,8 +4,8 @@ use borrow.Author.Needs.{needs}
 use borrow.Author.Tests.{eq-eqb, ne-eqb, le-leb, lt-leb}
 use Rattle.tree.proofs.Outcomes.{decided}
 use Rattle.bounds.specs.Walk.{judged}
-use Rattle.bounds.proofs.walk.judge.Statement.{statement}
-use Rattle.bounds.proofs.walk.judge.Tie as tie
+use Rattle.bounds.proofs.visit.judge.Statement.{statement}
+use Rattle.bounds.proofs.visit.judge.Tie as tie
 
 returns : tie.Need-returns
 unfolding judged decided

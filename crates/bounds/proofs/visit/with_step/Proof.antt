@@ -1,8 +1,8 @@
 -- `with_step` meets its contract. Assumes nothing.
 use borrow.Author.Needs.{needs}
 use Rattle.bounds.proofs.Counts.{step-more}
-use Rattle.bounds.proofs.walk.with_step.Statement.{statement}
-use Rattle.bounds.proofs.walk.with_step.Tie as tie
+use Rattle.bounds.proofs.visit.with_step.Statement.{statement}
+use Rattle.bounds.proofs.visit.with_step.Tie as tie
 
 add-t5 : tie.Need-add-t5
 add-t5 c = search needs

@@ -2,8 +2,8 @@
 use mathlib.Core.Path.{sym, _∙_}
 use borrow.Author.Needs.{needs}
 use Rattle.bounds.proofs.Noting.{note-death, note-step, note-cut, last-lower}
-use Rattle.bounds.proofs.walk.note.Statement.{statement}
-use Rattle.bounds.proofs.walk.note.Tie as tie
+use Rattle.bounds.proofs.visit.note.Statement.{statement}
+use Rattle.bounds.proofs.visit.note.Tie as tie
 
 is-death-requires : tie.Need-is-death-requires
 is-death-requires c κs = search needs

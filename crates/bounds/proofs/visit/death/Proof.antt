@@ -1,4 +1,4 @@
--- `bounds::walk::death` meets its contract: the lower follows from what is shared, and what a slow step shares may be kept. Assumes nothing.
+-- `bounds::visit::death` meets its contract: the lower follows from what is shared, and what a slow step shares may be kept. Assumes nothing.
 use mathlib.Core.Path.{_≡_, _∙_}
 use native.Mathlib.Omega.{arith}
 use lib.Dec.{lit≤}
@@ -14,8 +14,8 @@ use Rattle.bounds.proofs.Classes.{step-valid}
 use Rattle.bounds.proofs.PathLowers.{step-factor-sized}
 use Rattle.bounds.proofs.Deaths.{count-high, death-at}
 use Rattle.bounds.proofs.Kept.{serves-kept}
-use Rattle.bounds.proofs.walk.death.Statement.{statement}
-use Rattle.bounds.proofs.walk.death.Tie as tie
+use Rattle.bounds.proofs.visit.death.Statement.{statement}
+use Rattle.bounds.proofs.visit.death.Tie as tie
 
 -- the function's entry
 abbrev start : tie.After-shared-for → tie.Start
