@@ -1,0 +1,50 @@
+#!/bin/sh
+# Turns each rounding of steps.rs, walk.rs and bounds.rs the other way, one at a time, in a copy of
+# the sources, and shows which model betrays it. Takes some minutes.
+# Usage: ./roundings.sh [SEED [COUNT]]
+set -u
+cd "$(dirname "$0")" || exit 2
+cargo build --release --offline --quiet || exit 2
+seed=${1:-1}
+count=${2:-100000}
+copy=$(mktemp -d) || exit 2
+trap 'rm -rf "$copy"' EXIT
+cp -r Cargo.toml src "$copy"
+
+# Prints the file with the n-th rounding turned, and the line that holds it on standard error.
+turn() {
+    awk -v wanted="$2" '
+        /^use|planted/ { print; next }
+        {
+            rest = $0; line = ""
+            while (match(rest, /[ (](Up|Down)[,)]/)) {
+                seen += 1
+                word = substr(rest, RSTART + 1, RLENGTH - 2)
+                if (seen == wanted) {
+                    place = FNR ": " $0
+                    word = word == "Up" ? "Down" : "Up"
+                }
+                line = line substr(rest, 1, RSTART) word
+                rest = substr(rest, RSTART + RLENGTH - 1)
+            }
+            print line rest
+        }
+        END {
+            if (place == "") exit 1
+            gsub(/  +/, " ", place)
+            print place > "/dev/stderr"
+        }' "$1"
+}
+
+for file in steps walk bounds; do
+    number=1
+    while turn "src/$file.rs" "$number" >"$copy/src/$file.rs" 2>"$copy/place"; do
+        place="$file.rs:$(cat "$copy/place")"
+        (cd "$copy" && cargo build --release --offline --quiet --bin stream 2>/dev/null)
+        found=$(target/release/compare "$copy/target/release/stream" --seed "$seed" \
+            --count "$count" | grep '^model:' || echo "hidden in $count models")
+        printf '%s, rounding %s\n    %s\n' "$place" "$number" "$found"
+        number=$((number + 1))
+    done
+    cp "src/$file.rs" "$copy/src/$file.rs"
+done

@@ -1,0 +1,138 @@
+//! The kinds of models that are compared, and which kind the model of a number is.
+
+use crate::damage::{damage_draft, damage_words, random_word};
+use crate::draft::Draft;
+use crate::edges;
+use crate::quantities::{Taste, TASTES};
+use crate::random::Random;
+use crate::shapes::SHAPES;
+use reference::stream::Record;
+use reference::{assess, Answer, MOST_STEPS};
+
+pub struct Case {
+    pub kind: &'static str,
+    pub record: Record,
+}
+
+type Maker = fn(&mut Random) -> Record;
+
+/// How often each kind comes, in thousandths or so; the shapes share what is left.
+const KINDS: [(u64, &str, Maker); 14] = [
+    (120, "budget at, one below, one above", at_budget),
+    (60, "quantities at both ends", |random| shaped(random, Some(Taste::Ends))),
+    (80, "prune level at or near U", |random| usual(random, edges::prune_near_upper)),
+    (30, "grains at a cube or square", |random| usual(random, edges::sharp_grains)),
+    (10, "carries", |random| usual(random, edges::carries)),
+    (10, "totals at an edge", |random| usual(random, edges::totals_at_an_edge)),
+    (20, "factors near zero", |random| usual(random, edges::factors_near_zero)),
+    (30, "sums within 10^-12 of 1", |random| usual(random, edges::sums_near_one)),
+    (150, "damaged once", |random| damaged(random, 1)),
+    (120, "damaged twice", |random| damaged(random, 2)),
+    (20, "random words", random_words),
+    (10, "budget out of range", out_of_range_budget),
+    (3, "4,000 transitions and one more", full_table),
+    (1, "budget of 1,000,000", whole_budget),
+];
+
+const OUT_OF: u64 = 1_000;
+
+/// The model of a number, under a seed.
+pub fn case(seed: u64, number: u64) -> Case {
+    let mut random = Random::new(seed, number);
+    let mut draw = random.next() % OUT_OF;
+    for (weight, kind, maker) in KINDS {
+        if draw < weight {
+            return Case { kind, record: maker(&mut random) };
+        }
+        draw -= weight;
+    }
+    let (kind, shape) = random.pick(&SHAPES);
+    let taste = random.pick(&TASTES);
+    Case { kind, record: usual(&mut random, |random| shape(random, taste)) }
+}
+
+/// A budget that keeps most trees whole, and the others short.
+fn usual_budget(random: &mut Random) -> u64 {
+    match random.size(0, 9) {
+        0 => random.next() % 40 + 1,
+        1 => random.next() % 20_000 + 1,
+        _ => 2_000,
+    }
+}
+
+fn usual(random: &mut Random, shape: impl Fn(&mut Random) -> Draft) -> Record {
+    let words = shape(random).words();
+    Record { budget: usual_budget(random), words }
+}
+
+fn random_draft(random: &mut Random, taste: Option<Taste>) -> Draft {
+    let (_, shape) = random.pick(&SHAPES);
+    let taste = taste.unwrap_or(random.pick(&TASTES));
+    shape(random, taste)
+}
+
+fn shaped(random: &mut Random, taste: Option<Taste>) -> Record {
+    usual(random, |random| random_draft(random, taste))
+}
+
+/// A budget of the number of steps, or one off.
+fn at_budget(random: &mut Random) -> Record {
+    let words = random_draft(random, None).words();
+    let steps = match assess(&words, 5_000) {
+        Answer::Report(report) => report.counts.steps,
+        Answer::Refused(_) => 5_000,
+    };
+    Record { budget: steps + 1 - random.next() % 3, words }
+}
+
+fn damaged(random: &mut Random, times: usize) -> Record {
+    let mut draft = random_draft(random, None);
+    let on_draft = random.size(0, times);
+    for _ in 0..on_draft {
+        damage_draft(random, &mut draft);
+    }
+    let mut words = draft.words();
+    for _ in on_draft..times {
+        damage_words(random, &mut words);
+    }
+    let budget = if times > 1 && random.once_in(20) { 0 } else { usual_budget(random) };
+    Record { budget, words }
+}
+
+fn random_words(random: &mut Random) -> Record {
+    let mut words = random_draft(random, None).words();
+    words.truncate(random.size(0, 8));
+    for _ in 0..random.size(0, 12) {
+        words.push(random_word(random));
+    }
+    Record { budget: usual_budget(random), words }
+}
+
+fn out_of_range_budget(random: &mut Random) -> Record {
+    let words = random_draft(random, None).words();
+    let large = [0, MOST_STEPS + 1, u64::from(u32::MAX) + 2, 1 << 63, u64::MAX];
+    Record { budget: random.pick(&large), words }
+}
+
+/// 4,000 transitions, or one too many, or 16,006 words.
+fn full_table(random: &mut Random) -> Record {
+    let mut draft = edges::full_table(random);
+    match random.size(0, 4) {
+        0 => {
+            let rate = Taste::Tame.rate(random, draft.time);
+            draft.slow(draft.states, 1, rate);
+        }
+        1 => draft.transitions.extend(draft.transitions.first().copied()),
+        _ => {}
+    }
+    let mut words = draft.words();
+    if random.once_in(5) {
+        words.resize(random.size(16_005, 16_007), 0);
+    }
+    Record { budget: random.pick(&[1, 1_000, 4_000]), words }
+}
+
+/// Trees of thousands to a million steps, and larger ones than any budget allows.
+fn whole_budget(random: &mut Random) -> Record {
+    Record { budget: MOST_STEPS, words: edges::large_tree(random).words() }
+}

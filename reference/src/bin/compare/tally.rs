@@ -1,0 +1,75 @@
+//! Counts of what was compared, by kind of model and by answer.
+
+use reference::Answer;
+use std::collections::BTreeMap;
+use std::fmt;
+
+/// The columns: reports, then refusals by number.
+const REFUSALS: [u32; 12] = [1, 2, 3, 4, 5, 6, 7, 8, 9, 10, 11, 13];
+
+#[derive(Default)]
+pub struct Tally {
+    /// For each kind, how many answers of each number; 0 stands for a report.
+    rows: BTreeMap<&'static str, BTreeMap<u32, u64>>,
+    /// Reports on which the accuracy rule was checked.
+    pub accurate: u64,
+    /// Reports of too many paths for that.
+    pub too_many_paths: u64,
+    /// Ended paths in the reports that were checked.
+    pub exact_paths: u64,
+    pub lower_above_zero: u64,
+    pub steps: u64,
+}
+
+impl Tally {
+    pub fn count(&mut self, kind: &'static str, answer: &Answer) {
+        let number = match answer {
+            Answer::Report(report) => {
+                self.steps += report.counts.steps;
+                self.lower_above_zero += u64::from(!report.lower.is_zero());
+                0
+            }
+            Answer::Refused(refusal) => refusal.number,
+        };
+        *self.rows.entry(kind).or_default().entry(number).or_default() += 1;
+    }
+
+    pub fn models(&self) -> u64 {
+        self.rows.values().flat_map(BTreeMap::values).sum()
+    }
+
+    fn of_number(&self, number: u32) -> u64 {
+        self.rows.values().filter_map(|row| row.get(&number)).sum()
+    }
+}
+
+impl fmt::Display for Tally {
+    fn fmt(&self, out: &mut fmt::Formatter<'_>) -> fmt::Result {
+        write!(out, "{:<33}{:>9}{:>9}", "kind of model", "models", "reports")?;
+        for number in REFUSALS {
+            write!(out, "{:>7}", format!("r{number}"))?;
+        }
+        writeln!(out)?;
+        for (kind, row) in &self.rows {
+            let of = |number: u32| row.get(&number).copied().unwrap_or(0);
+            write!(out, "{kind:<33}{:>9}{:>9}", row.values().sum::<u64>(), of(0))?;
+            for number in REFUSALS {
+                write!(out, "{:>7}", of(number))?;
+            }
+            writeln!(out)?;
+        }
+        write!(out, "{:<33}{:>9}{:>9}", "all", self.models(), self.of_number(0))?;
+        for number in REFUSALS {
+            write!(out, "{:>7}", self.of_number(number))?;
+        }
+        writeln!(out)?;
+        writeln!(out, "steps in the reports: {}", self.steps)?;
+        writeln!(out, "reports with a lower figure above zero: {}", self.lower_above_zero)?;
+        if self.accurate + self.too_many_paths > 0 {
+            let (checked, paths) = (self.accurate, self.exact_paths);
+            writeln!(out, "accuracy rule held on {checked} reports of {paths} ended paths")?;
+            writeln!(out, "reports of too many paths to check: {}", self.too_many_paths)?;
+        }
+        Ok(())
+    }
+}

@@ -1,0 +1,93 @@
+//! The lower figure of a death path, and the totals of a report.
+
+use crate::answer::{Counts, Report};
+use crate::faults::{planted, Fault};
+use crate::figure::Side::{Down, Up};
+use crate::figure::{Figure, Total};
+use crate::steps::{Class, Figures, GRAINS};
+use crate::walk::{End, Watcher};
+
+/// The running totals, eighteen digits each.
+pub struct Totals<'a> {
+    figures: &'a Figures,
+    lower: Total,
+    death_upper: Total,
+    cut_upper: Total,
+}
+
+impl<'a> Totals<'a> {
+    pub fn new(figures: &'a Figures) -> Totals<'a> {
+        let zero = Total::ZERO;
+        Totals { figures, lower: zero, death_upper: zero, cut_upper: zero }
+    }
+
+    pub fn report(&self, counts: Counts) -> Report {
+        Report {
+            lower: self.lower.narrowed(Down),
+            upper: self.death_upper.plus(self.cut_upper, Up).narrowed(Up),
+            cut: self.cut_upper.narrowed(Up),
+            counts,
+        }
+    }
+}
+
+impl Watcher for Totals<'_> {
+    fn ended(&mut self, end: End, path: &[usize], upper: Figure) {
+        match end {
+            End::Death => {
+                self.death_upper = self.death_upper.plus(upper.widened(), Up);
+                let lower = lower_of(path, self.figures);
+                self.lower = self.lower.plus(lower.widened(), Down);
+            }
+            End::Cut => self.cut_upper = self.cut_upper.plus(upper.widened(), Up),
+        }
+        if planted(Fault::TotalsOfNineDigits) {
+            self.lower = self.lower.narrowed(Down).widened(); // planted
+            self.death_upper = self.death_upper.narrowed(Up).widened(); // planted
+            self.cut_upper = self.cut_upper.narrowed(Up).widened(); // planted
+        }
+    }
+}
+
+/// The lower figure of a death path.
+pub fn lower_of(path: &[usize], figures: &Figures) -> Figure {
+    let grains: u64 = path.iter().map(|&exit| figures.steps[exit].grains).sum();
+    let class_two_only = path.iter().all(|&exit| figures.steps[exit].class != Class::One);
+    if grains >= GRAINS {
+        if planted(Fault::FullGrainsLetThrough) && class_two_only {
+            return product_of_steps(path, figures, Figure::ONE).0;
+        }
+        return Figure::ZERO;
+    }
+    let left = Figure::small(GRAINS - grains);
+    let time_down = figures.time.times(left, Down).shifted(-6);
+    let time_up = figures.time.times(left, Up).shifted(-6);
+    let (product, escapes, class_ones) = product_of_steps(path, figures, time_down);
+    let b = time_up.times(escapes, Up).over(Figure::small(class_ones + 1), Up);
+    let last = if planted(Fault::LowerRoundsUp) { Up } else { Down };
+    product.times(Figure::ONE.minus(b, Down), last)
+}
+
+/// The product over the steps in path order, with A and the number of class 1 steps.
+fn product_of_steps(path: &[usize], figures: &Figures, time: Figure) -> (Figure, Figure, u64) {
+    let (mut product, mut escapes, mut class_ones) = (Figure::ONE, Figure::ZERO, 0);
+    let mut grains_so_far = 0;
+    for &exit in path {
+        let step = &figures.steps[exit];
+        grains_so_far += step.grains;
+        if step.class != Class::One {
+            product = product.times(step.factor, Down);
+            continue;
+        }
+        class_ones += 1;
+        let mut time = time;
+        if planted(Fault::ShrunkStepByStep) {
+            let left = Figure::small(GRAINS - grains_so_far);
+            time = figures.time.times(left, Down).shifted(-6); // planted
+        }
+        product = product.times(step.weight, Down).times(time, Down);
+        product = product.over(Figure::small(class_ones), Down);
+        escapes = escapes.plus(step.escape, Up);
+    }
+    (product, escapes, class_ones)
+}

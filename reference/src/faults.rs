@@ -1,0 +1,99 @@
+//! Faults that can be planted on purpose, to show that the comparer finds them.
+//!
+//! Nothing is planted unless a program asks for it by [`plant`]; only `stream --fault NAME` does.
+
+use std::cell::Cell;
+
+#[derive(Clone, Copy, Debug, PartialEq, Eq)]
+pub enum Fault {
+    UpperRoundsDown,
+    EscapeRoundsDown,
+    LowerRoundsUp,
+    DividedByPlace,
+    OwnRateLeftOut,
+    PlainMean,
+    CutBeforeDeath,
+    SeventeenthExit,
+    PlaceOffByOne,
+    BudgetReached,
+    CarryLost,
+    GrainsOneMore,
+    GrainsAboveOnly,
+    ShrunkStepByStep,
+    TotalsOfNineDigits,
+    StartNotEntered,
+    PruneBelowOnly,
+    EntryLimitReached,
+    SlowAndFastAreTheSame,
+    SumNearOne,
+    MeanDownForUp,
+    FullGrainsLetThrough,
+    TinyTermLost,
+    TinyDifferenceLost,
+    TimeSquareUp,
+    SumsReversed,
+    BitAfterStates,
+    TransitionTooMany,
+    WordTooFew,
+}
+
+/// Every fault with its name and what it does.
+pub const ALL: [(Fault, &str, &str); 29] = [
+    (Fault::UpperRoundsDown, "upper-rounds-down", "U × rate rounds down in class 1"),
+    (Fault::EscapeRoundsDown, "escape-rounds-down", "the sum E rounds down"),
+    (Fault::LowerRoundsUp, "lower-rounds-up", "the last product of a lower rounds up"),
+    (Fault::DividedByPlace, "divided-by-place", "U is divided by the step's place in the path"),
+    (Fault::OwnRateLeftOut, "own-rate-left-out", "E leaves the step's own rate out"),
+    (Fault::PlainMean, "plain-mean", "h is the plain mean, without the probabilities"),
+    (Fault::CutBeforeDeath, "cut-before-death", "a cut is tested before a death"),
+    (Fault::SeventeenthExit, "seventeenth-exit", "a 17th exit is let through"),
+    (Fault::PlaceOffByOne, "place-off-by-one", "refusal 3 names the word before"),
+    (Fault::BudgetReached, "budget-reached", "13 when the steps reach the budget"),
+    (Fault::CarryLost, "carry-lost", "999,999,999 rounded up loses its carry"),
+    (Fault::GrainsOneMore, "grains-one-more", "n is one more than the least"),
+    (Fault::GrainsAboveOnly, "grains-above-only", "n³ or n² must be above g, not at it"),
+    (Fault::ShrunkStepByStep, "shrunk-step-by-step", "class 1 uses the grains so far, not N'"),
+    (Fault::TotalsOfNineDigits, "totals-of-nine-digits", "totals keep nine digits"),
+    (Fault::StartNotEntered, "start-not-entered", "being at the start is no entry"),
+    (Fault::PruneBelowOnly, "prune-below-only", "a path with U equal to P goes on"),
+    (Fault::EntryLimitReached, "entry-limit-reached", "cut at V entries instead of above"),
+    (Fault::SlowAndFastAreTheSame, "slow-fast-same", "slow and fast between two states: 8"),
+    (Fault::SumNearOne, "sum-near-one", "a sum within 10^-12 of 1 is let through"),
+    (Fault::MeanDownForUp, "mean-down-for-up", "class 3 uppers use h' instead of h"),
+    (
+        Fault::FullGrainsLetThrough,
+        "grains-over-million",
+        "N' of 1,000,000 or more with no class 1 step is not 0",
+    ),
+    (
+        Fault::TinyTermLost,
+        "tiny-term-lost",
+        "a term far below the sum is dropped, whatever the side",
+    ),
+    (Fault::TinyDifferenceLost, "tiny-difference-lost", "a subtrahend far below is dropped"),
+    (Fault::TimeSquareUp, "time-square-up", "T2 rounds up"),
+    (Fault::SumsReversed, "sums-reversed", "E, h and H are summed from the last exit"),
+    (Fault::BitAfterStates, "bit-after-states", "refusal 4 of a transition comes after 6 to 9"),
+    (Fault::TransitionTooMany, "transition-too-many", "a 4,001st transition is let through"),
+    (Fault::WordTooFew, "word-too-few", "16,005 words are refused as too many"),
+];
+
+thread_local! {
+    static PLANTED: Cell<Option<Fault>> = const { Cell::new(None) };
+}
+
+/// Plants one fault in this thread, or none.
+pub fn plant(fault: Option<Fault>) {
+    PLANTED.with(|cell| cell.set(fault));
+}
+
+/// Whether a fault is planted in this thread.
+#[inline]
+pub fn planted(fault: Fault) -> bool {
+    PLANTED.with(|cell| cell.get() == Some(fault))
+}
+
+/// The fault of a name.
+pub fn named(name: &str) -> Option<Fault> {
+    ALL.iter().find(|(_, known, _)| *known == name).map(|&(fault, _, _)| fault)
+}

@@ -1,0 +1,219 @@
+//! Figures: zero, or a whole number of a fixed length times a power of ten. Each operation rounds
+//! once.
+
+use crate::faults::{planted, Fault};
+use crate::model::Quantity;
+use std::cmp::Ordering;
+use std::fmt;
+
+/// To which side an operation rounds.
+#[derive(Clone, Copy, Debug, PartialEq, Eq)]
+pub enum Side {
+    Up,
+    Down,
+}
+
+use Side::{Down, Up};
+
+/// Zero (digits 0, power 0), or digits × 10^power where digits has exactly `LENGTH` decimal digits.
+#[derive(Clone, Copy, Debug, PartialEq, Eq)]
+pub struct Decimal<const LENGTH: u32> {
+    digits: u64,
+    power: i32,
+}
+
+/// A figure of document 01.
+pub type Figure = Decimal<9>;
+
+/// A running total of document 01.
+pub type Total = Decimal<18>;
+
+/// The widest gap of powers at which two numbers are brought to one power: 18 + 20 digits fit 128
+/// bits.
+const WIDEST_GAP: u32 = 20;
+
+impl<const LENGTH: u32> Decimal<LENGTH> {
+    pub const ZERO: Self = Decimal { digits: 0, power: 0 };
+    pub const ONE: Self = Decimal { digits: 10u64.pow(LENGTH - 1), power: 1 - LENGTH as i32 };
+
+    pub fn is_zero(self) -> bool {
+        self.digits == 0
+    }
+
+    pub fn digits(self) -> u64 {
+        self.digits
+    }
+
+    pub fn power(self) -> i32 {
+        self.power
+    }
+
+    /// value × 10^power on one side. With `more`, what is rounded lies strictly between value and
+    /// value + 1; the value then has at least `LENGTH` digits.
+    fn rounded(value: u128, power: i32, more: bool, side: Side) -> Self {
+        if value == 0 {
+            return Self::ZERO;
+        }
+        let length = length_of(value);
+        if length <= LENGTH {
+            let lift = LENGTH - length;
+            let digits = value as u64 * ten_to(lift) as u64;
+            return Self::carried(digits, more && side == Up, power - lift as i32);
+        }
+        let drop = length - LENGTH;
+        let (digits, rest) = divided(value, ten_to(drop));
+        let inexact = more || rest != 0;
+        Self::carried(digits as u64, inexact && side == Up, power + drop as i32)
+    }
+
+    /// The digits, one more if asked for, with the carry into the power when they become too long.
+    fn carried(digits: u64, one_more: bool, power: i32) -> Self {
+        let digits = digits + u64::from(one_more);
+        if digits < const { 10u64.pow(LENGTH) } {
+            return Decimal { digits, power };
+        }
+        let carry = i32::from(!planted(Fault::CarryLost));
+        Decimal { digits: digits / 10, power: power + carry }
+    }
+
+    /// A whole number, rounded.
+    pub fn whole(number: u64, side: Side) -> Self {
+        Self::rounded(u128::from(number), 0, false, side)
+    }
+
+    pub fn times(self, other: Self, side: Side) -> Self {
+        let product = u128::from(self.digits) * u128::from(other.digits);
+        Self::rounded(product, self.power + other.power, false, side)
+    }
+
+    /// The quotient; the divisor is not zero.
+    pub fn over(self, divisor: Self, side: Side) -> Self {
+        let lift = LENGTH + 1;
+        let lifted = u128::from(self.digits) * ten_to(lift);
+        let (quotient, rest) = divided(lifted, u128::from(divisor.digits));
+        Self::rounded(quotient, self.power - divisor.power - lift as i32, rest != 0, side)
+    }
+
+    pub fn plus(self, other: Self, side: Side) -> Self {
+        if self.is_zero() || other.is_zero() {
+            return if self.is_zero() { other } else { self };
+        }
+        let (high, low) = if self.power >= other.power { (self, other) } else { (other, self) };
+        let gap = high.power.abs_diff(low.power);
+        if gap > WIDEST_GAP {
+            let more = !planted(Fault::TinyTermLost);
+            return Self::rounded(u128::from(high.digits), high.power, more, side);
+        }
+        let sum = u128::from(high.digits) * ten_to(gap) + u128::from(low.digits);
+        Self::rounded(sum, low.power, false, side)
+    }
+
+    /// The difference; 0 where it isn't positive.
+    pub fn minus(self, other: Self, side: Side) -> Self {
+        if other.is_zero() {
+            return self;
+        }
+        if self <= other {
+            return Self::ZERO;
+        }
+        let gap = self.power.abs_diff(other.power);
+        if gap > WIDEST_GAP && planted(Fault::TinyDifferenceLost) {
+            return self;
+        }
+        if gap > WIDEST_GAP {
+            let just_below = u128::from(self.digits) * 10 - 1;
+            return Self::rounded(just_below, self.power - 1, true, side);
+        }
+        let difference = u128::from(self.digits) * ten_to(gap) - u128::from(other.digits);
+        Self::rounded(difference, other.power, false, side)
+    }
+
+    /// Times a power of ten, which is exact.
+    pub fn shifted(self, by: i32) -> Self {
+        if self.is_zero() {
+            return self;
+        }
+        Decimal { digits: self.digits, power: self.power + by }
+    }
+}
+
+/// The powers of ten that 128 bits hold.
+const POWERS: [u128; 39] = {
+    let mut powers = [1; 39];
+    let mut exponent = 1;
+    while exponent < powers.len() {
+        powers[exponent] = 10 * powers[exponent - 1];
+        exponent += 1;
+    }
+    powers
+};
+
+fn ten_to(exponent: u32) -> u128 {
+    POWERS[exponent as usize]
+}
+
+/// The number of decimal digits of a number that isn't zero.
+fn length_of(value: u128) -> u32 {
+    match u64::try_from(value) {
+        Ok(short) => short.ilog10() + 1,
+        Err(_) => value.ilog10() + 1,
+    }
+}
+
+/// Quotient and rest; the short division where the numbers are short, since it is much faster.
+fn divided(value: u128, by: u128) -> (u128, u128) {
+    match (u64::try_from(value), u64::try_from(by)) {
+        (Ok(value), Ok(by)) => (u128::from(value / by), u128::from(value % by)),
+        _ => (value / by, value % by),
+    }
+}
+
+impl Figure {
+    /// A whole number of at most nine digits, which is exact.
+    pub fn small(number: u64) -> Figure {
+        debug_assert!(number < 1_000_000_000);
+        Figure::whole(number, Down)
+    }
+
+    /// A quantity of the words; six digits always fit.
+    pub fn of(quantity: Quantity) -> Figure {
+        Figure::small(u64::from(quantity.coefficient)).shifted(-(quantity.scale as i32))
+    }
+
+    /// The same number as a total.
+    pub fn widened(self) -> Total {
+        Total::rounded(u128::from(self.digits), self.power, false, Down)
+    }
+}
+
+impl Total {
+    /// The total on one side, to nine digits.
+    pub fn narrowed(self, side: Side) -> Figure {
+        Figure::rounded(u128::from(self.digits), self.power, false, side)
+    }
+}
+
+impl<const LENGTH: u32> PartialOrd for Decimal<LENGTH> {
+    fn partial_cmp(&self, other: &Self) -> Option<Ordering> {
+        Some(self.cmp(other))
+    }
+}
+
+impl<const LENGTH: u32> Ord for Decimal<LENGTH> {
+    fn cmp(&self, other: &Self) -> Ordering {
+        match (self.is_zero(), other.is_zero()) {
+            (false, false) => (self.power, self.digits).cmp(&(other.power, other.digits)),
+            (own, others) => others.cmp(&own),
+        }
+    }
+}
+
+impl fmt::Display for Figure {
+    fn fmt(&self, out: &mut fmt::Formatter<'_>) -> fmt::Result {
+        if self.is_zero() {
+            return write!(out, "0");
+        }
+        let (first, rest) = (self.digits / 100_000_000, self.digits % 100_000_000);
+        write!(out, "{first}.{rest:08}E{}", self.power + 8)
+    }
+}

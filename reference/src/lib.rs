@@ -1,0 +1,65 @@
+//! Semi-Markov unreliability bounds from a word table: an independent implementation.
+//!
+//! It was written from document 01 alone and shares no code and no tables with the proved library.
+//! Names in quotes or single capitals (U, E, M, h, H, T, L, V) are those of document 01.
+//!
+//! - [`words`]: words to a model, refusals 1 to 11
+//! - [`figure`]: nine and eighteen digit figures with their two roundings
+//! - [`steps`]: the figures that belong to a state or to a transition (E, h, H, grains, factors)
+//! - [`walk`]: the cut tree, refusal 13
+//! - [`bounds`]: the lower figure of a path and the totals
+//! - [`bigint`], [`fraction`], [`exact`], [`accuracy`]: exact sums and the accuracy rule
+//! - [`faults`]: faults that can be planted on purpose, to try the comparer on
+
+pub mod accuracy;
+pub mod answer;
+pub mod bigint;
+pub mod bounds;
+pub mod exact;
+pub mod faults;
+pub mod figure;
+pub mod fraction;
+pub mod model;
+pub mod steps;
+pub mod stream;
+pub mod walk;
+pub mod words;
+
+pub use answer::{Answer, Report};
+pub use model::{Model, Refusal};
+
+/// The budget of the report program, and the greatest one allowed.
+pub const MOST_STEPS: u64 = 1_000_000;
+
+/// The report on the words, or the first reason to turn them away.
+pub fn assess(words: &[u32], budget: u64) -> Answer {
+    match words::read(words, budget) {
+        Ok(model) => report(&model, budget),
+        Err(refusal) => Answer::Refused(refusal),
+    }
+}
+
+/// The report on a model that has been read, or refusal 13.
+pub fn report(model: &Model, budget: u64) -> Answer {
+    let figures = steps::Figures::of(model);
+    let mut totals = bounds::Totals::new(&figures);
+    match walk::walk(model, &figures, budget, &mut totals) {
+        Ok(counts) => Answer::Report(totals.report(counts)),
+        Err(refusal) => Answer::Refused(refusal),
+    }
+}
+
+/// The words of a stream of bytes, least significant byte first.
+/// Left-over bytes count as one more word of no kind. Kind 0 is called for nowhere, so 0 stands for
+/// it.
+pub fn words_of_bytes(bytes: &[u8]) -> Vec<u32> {
+    let quads = bytes.chunks_exact(4);
+    let left_over = !quads.remainder().is_empty();
+    let mut words: Vec<u32> = quads
+        .map(|quad| quad.iter().rev().fold(0, |word, &byte| word << 8 | u32::from(byte)))
+        .collect();
+    if left_over {
+        words.push(0);
+    }
+    words
+}
