@@ -1,20 +1,20 @@
 -- What each reader calls for, and the reading of the words that stand in a fixed order: the first four, and those behind a transition's own.
 -- Assumes nothing.
-use Prim.Native.Nat.{ℕ, suc, _+_, _≤_, _<_}
-use mathlib.Core.Path.{_≡_, refl, sym, ap, _∙_}
+use Prim.Native.Nat.{ℕ, suc, _+_, _≤_}
+use mathlib.Core.Path.{_≡_, refl, _∙_}
 use mathlib.Core.Bool.{Bool, true, false}
-use mathlib.Core.List.{List, [], _∷_}
+use mathlib.Core.List.{List, []}
 use native.Mathlib.Numerals.{add-one, add-three}
 use native.Mathlib.Omega.{arith}
 use lib.ListN.{length, getD, drop}
 use Rattle.model.specs.declared.Quantity.{Quantity}
 use Rattle.model.specs.Model.{Manner, slow, fast, Model}
 use Rattle.model.specs.Words.{states-field, start-field, steps-field, entries-field, quantity}
-use Rattle.model.specs.Faults.{Fault, head-faults, quantity-faults, caps-faults}
-use Rattle.model.specs.Reading.{Answer, refused, granted, Reader, at-head, at-time, at-prune, at-caps, at-transition, at-rate, at-mean, at-deviation, at-probability, empty-model, with-transition, next, at-words-end, read-from}
-use Rattle.model.specs.Parts.{first-fault, words-answer, opening-faults, body-faults}
+use Rattle.model.specs.Faults.{head-faults, quantity-faults, caps-faults}
+use Rattle.model.specs.Reading.{refused, granted, Reader, at-head, at-time, at-prune, at-caps, at-transition, at-rate, at-mean, at-deviation, at-probability, empty-model, with-transition, next, at-words-end, read-from}
+use Rattle.model.specs.Parts.{words-answer, opening-faults, body-faults}
 use Rattle.model.proofs.Refusals.{inside}
-use Rattle.model.proofs.Steps.{Asks, Passed, stops, passes, first-granted-tail}
+use Rattle.model.proofs.Steps.{Asks, stops, passes, first-granted-tail}
 
 asks-head : Asks at-head head-faults (λ w. at-time (states-field w) (start-field w))
 unfolding next at-words-end

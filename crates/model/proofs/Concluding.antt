@@ -1,17 +1,16 @@
 -- The answer to words that were read to their end: what the tests after it say of the whole reading. Assumes nothing.
 use Prim.Native.Nat.{ℕ, _≤_, _<_}
-use mathlib.Core.Path.{_≡_, refl, sym, ap, _∙_}
-use mathlib.Core.Bool.{Bool, true, false}
+use mathlib.Core.Path.{_≡_, sym, ap, _∙_}
+use mathlib.Core.Bool.{true, false}
 use mathlib.Core.List.{List}
 use native.Mathlib.Omega.{arith}
 use lib.ListN.{length, getD}
-use lib.Dec.{eqb}
 use borrow.Author.Tests.{eq-eqb, ne-eqb}
 use Rattle.model.specs.declared.Refusal.the-variants.{ProbabilitiesNotOne, StartWithoutExits}
 use Rattle.model.specs.declared.Accepted.{Accepted}
 use Rattle.model.specs.declared.Reading.the-variants.{Accepted as accepted, Refused as refusal}
 use Rattle.model.specs.Model.{Net, Model, is-empty, exits}
-use Rattle.model.specs.Reading.{refused, lowest-uneven, read}
+use Rattle.model.specs.Reading.{refused, lowest-uneven}
 use Rattle.model.specs.Parts.{Leads, Ended, Through, Concluded}
 use Rattle.model.proofs.Members.{is-empty-length}
 use Rattle.model.proofs.Filled.{leads, through}

@@ -1,18 +1,17 @@
 -- What an index leads to while the words are still read: a state's slots lead to its exits, and test 8 by the index is test 8. Assumes nothing.
 use Prim.Native.Nat.{ℕ, _+_, _*_, _≤_, _<_}
 use mathlib.Core.Path.{_≡_, refl, sym, ap, _∙_}
-use mathlib.Core.Bool.{Bool}
 use mathlib.Core.List.{List}
 use native.Mathlib.Nat.{zero-add}
 use native.Mathlib.Omega.{arith}
 use lib.ListN.{length, getD, drop}
 use lib.Dec.{eqb}
 use Rattle.model.specs.declared.Accepted.{Accepted}
-use Rattle.model.specs.Model.{Transition, Model, any, exits-in, exits}
+use Rattle.model.specs.Model.{Model, any, exits}
 use Rattle.model.specs.Words.{kind, from-field, to-field}
 use Rattle.model.specs.Faults.{same-transition}
-use Rattle.model.specs.Index.{transition-at, word-count, Stands, no-transition, transition, Indexed}
-use Rattle.model.specs.Parts.{along, slot-place, slot-words, slot-transitions, Leads, TransitionWord, Filled}
+use Rattle.model.specs.Index.{transition-at, Stands, no-transition}
+use Rattle.model.specs.Parts.{slot-place, slot-words, slot-transitions, Leads, TransitionWord, Filled}
 use Rattle.model.proofs.Exits.{index-below, index-exit, same-in-exits}
 use Rattle.model.proofs.Slots.{stands-from, stands-to, stands-fast, stands-inside, stands-inside-fast}
 use Rattle.model.proofs.SameWord.{word-stood}

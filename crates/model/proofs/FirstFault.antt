@@ -7,7 +7,7 @@ use native.Mathlib.Omega.{arith}
 use lib.ListN.{length, getD}
 use borrow.Author.Tests.{eq-eqb, ne-eqb}
 use Rattle.model.specs.Faults.{Fault, differs}
-use Rattle.model.specs.Reading.{Answer, refused, granted}
+use Rattle.model.specs.Reading.{refused, granted}
 use Rattle.model.specs.Parts.{first-fault, word-answer}
 
 module _ (f : Fault) (fs : List Fault) (i : ℕ) where

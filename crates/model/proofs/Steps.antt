@@ -1,5 +1,5 @@
 -- Reading on, one word after the other, from a place of the words. Assumes nothing.
-use Prim.Native.Nat.{ℕ, zero, suc, _+_, _-_, _≤_, _<_}
+use Prim.Native.Nat.{ℕ, suc, _-_, _≤_, _<_}
 use mathlib.Core.Path.{_≡_, refl, sym, ap, _∙_}
 use mathlib.Core.Bool.{Bool, true, false}
 use mathlib.Core.List.{List, [], _∷_}
@@ -8,7 +8,7 @@ use native.Mathlib.Omega.{arith}
 use lib.ListN.{length, getD, take, drop, drop-of-length-le, length-drop}
 use lib.Seq.{drop-cons, getD-drop, take-all}
 use Rattle.model.specs.Faults.{Fault}
-use Rattle.model.specs.Reading.{Answer, refused, granted, then, Reader, Next, wrong, right, unless, next, at-words-end, read-from}
+use Rattle.model.specs.Reading.{Answer, refused, granted, then, Reader, wrong, right, unless, next, at-words-end, read-from}
 use Rattle.model.specs.Model.{Model}
 use Rattle.model.specs.Parts.{first-fault, word-answer, words-answer}
 use Rattle.model.proofs.FirstFault.{here, later}
@@ -21,6 +21,9 @@ part-from l a = take-all (length l - a) (drop a l) (le-of-eq (length-drop a l))
 -- its first member
 pub part-first : (ws : List ℕ) (i : ℕ) → getD (drop i ws) 0 0 ≡ getD ws i 0
 part-first ws i = getD-drop i ws 0 0 ∙ rw add-zero
+
+pub part-word : (ws : List ℕ) (i : ℕ) → getD (take (length ws - i) (drop i ws)) 0 0 ≡ getD ws i 0
+part-word ws i = ap (λ (l : List ℕ). getD l 0 0) (part-from ws i) ∙ part-first ws i
 
 -- ---- one word
 

@@ -8,7 +8,7 @@ use lib.ListN.{length, getD, drop, length-drop}
 use Rattle.model.specs.Model.{Model}
 use Rattle.model.specs.Words.{kind}
 use Rattle.model.specs.Faults.{end-faults}
-use Rattle.model.specs.Reading.{Answer, refused, granted, at-transition, after-end, next, at-words-end, read-from}
+use Rattle.model.specs.Reading.{refused, granted, at-transition, after-end, next, at-words-end, read-from}
 use Rattle.model.specs.Parts.{first-fault, word-answer}
 use Rattle.model.proofs.Refusals.{next-end}
 use Rattle.model.proofs.FirstFault.{a-word}

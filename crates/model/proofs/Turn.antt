@@ -1,6 +1,6 @@
 -- One turn of reading: a transition is called for, its word is of kind 5 or 7, and the code's tests by the index are the definition's.
 -- Assumes nothing.
-use Prim.Native.Nat.{ℕ, suc, _+_, _*_, _≤_, _<_}
+use Prim.Native.Nat.{ℕ, suc, _+_, _≤_, _<_}
 use mathlib.Core.Path.{_≡_, refl, sym, ap, _∙_}
 use mathlib.Core.Bool.{Bool, true, false, _||_}
 use mathlib.Core.Logic.{_⊎_, inl, inr}
@@ -12,19 +12,18 @@ use native.Mathlib.Omega.{arith}
 use lib.ListN.{length, getD, drop, set, replicate, length-append, length-set, length-replicate, getD-replicate}
 use lib.Seq.{getD-drop, getD-set-same, getD-set-other}
 use lib.Dec.{leb, eqb}
-use borrow.Author.Tests.{eq-eqb, ne-eqb, eqb-true, eqb-false}
 use Rattle.model.specs.declared.Accepted.{Accepted}
 use Rattle.model.specs.declared.Verdict.{Verdict}
 use Rattle.model.specs.declared.Verdict.the-variants.{Fine, Refused as refusal}
 use Rattle.model.specs.declared.transitions.Step.{Step}
 use Rattle.model.specs.declared.transitions.Step.the-variants.{To, End, Refused as stopped}
-use Rattle.model.specs.Model.{Manner, slow, fast, Transition, Net, Limits, Model, any, is-fast, exits-in}
-use Rattle.model.specs.Words.{kind, transition-rest, from-field, to-field, quantity}
-use Rattle.model.specs.Faults.{Fault, _gives_, outside, differs, same-transition, transition-faults}
-use Rattle.model.specs.Reading.{Answer, refused, granted, Reader, at-head, at-transition, empty-model, with-transition, wrong, right, unless, next, at-words-end, read-from}
+use Rattle.model.specs.Model.{Manner, Transition, Model, any, exits-in}
+use Rattle.model.specs.Words.{kind, transition-rest, from-field, to-field}
+use Rattle.model.specs.Faults.{Fault, _gives_, outside, same-transition, transition-faults}
+use Rattle.model.specs.Reading.{refused, granted, at-head, at-transition, empty-model, with-transition, unless, next, at-words-end, read-from}
 use Rattle.model.specs.Index.{transition-at, word-count, Stands}
 use Rattle.model.specs.Refusal.{number, place}
-use Rattle.model.specs.Parts.{first-fault, words-answer, body-faults, field-faults, room-faults, slot-words, TransitionWord, Filled, UpTo, Begun, AtTransition, words-taken, Passes, answer, Tested, EndsAs, Stepped, IsOpened}
+use Rattle.model.specs.Parts.{first-fault, words-answer, body-faults, field-faults, room-faults, TransitionWord, Begun, AtTransition, words-taken, Passes, answer, Tested, EndsAs, Stepped, IsOpened}
 use Rattle.model.proofs.Valid.{Each}
 use Rattle.model.proofs.Members.{neither}
 use Rattle.model.proofs.Refusals.{inside, differs-false, next-slow, next-fast, next-other}

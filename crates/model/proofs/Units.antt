@@ -1,5 +1,5 @@
 -- Probabilities as whole numbers of 10^-12: their bounds, and sums over exits by the first. Assumes nothing.
-use Prim.Native.Nat.{ℕ, zero, suc, _+_, _-_, _*_, _/_, _%_, _^_, _≤_, _<_}
+use Prim.Native.Nat.{ℕ, _+_, _-_, _*_, _^_, _≤_, _<_}
 use mathlib.Core.Path.{_≡_, refl, sym, ap, _∙_}
 use native.Mathlib.Nat.{add-zero, zero-add, add-assoc, mul-one, pow-suc, pow-le-pow-right, mul-le-mul-left}
 use native.Mathlib.Numerals.{add-one}

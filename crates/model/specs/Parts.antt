@@ -2,11 +2,11 @@
 -- `read`'s own promise, in Refusal, names nothing of this file. Assumes nothing: these are definitions.
 use Prim.Native.Nat.{ℕ, zero, suc, _+_, _*_, _≤_, _<_}
 use mathlib.Core.Path.{_≡_}
-use mathlib.Core.Bool.{Bool, true, false, not, _&&_, _||_}
+use mathlib.Core.Bool.{Bool, true, false, _&&_, _||_}
 use mathlib.Core.Logic.{_⊎_}
 use mathlib.Core.List.{List, [], _∷_}
 use lib.ListN.{length, getD, drop, set}
-use lib.Dec.{leb, ltb, eqb}
+use lib.Dec.{leb, eqb}
 use Rattle.model.specs.declared.Refusal.{Refusal}
 use Rattle.model.specs.declared.Accepted.{Accepted}
 use Rattle.model.specs.declared.Verdict.{Verdict}
@@ -16,10 +16,10 @@ use Rattle.model.specs.declared.opening.Opening.{Opening}
 use Rattle.model.specs.declared.opening.Opening.the-variants.{Opened, Refused as unopened}
 use Rattle.model.specs.declared.transitions.Step.{Step}
 use Rattle.model.specs.declared.transitions.Step.the-variants.{To, End, Refused as stopped}
-use Rattle.model.specs.Model.{Transition, Net, Limits, Model, any, exits, has-fast, probability-sum}
-use Rattle.model.specs.Words.{kind, from-field, to-field, transition-rest, end-rest}
-use Rattle.model.specs.Faults.{Fault, _gives_, outside, differs, head-faults, quantity-faults, caps-faults, end-faults}
-use Rattle.model.specs.Reading.{Answer, refused, granted, then, Reader, at-head, at-transition, read-from, lowest-uneven}
+use Rattle.model.specs.Model.{Transition, Net, Model, any, exits, has-fast, probability-sum}
+use Rattle.model.specs.Words.{kind, from-field, to-field, transition-rest}
+use Rattle.model.specs.Faults.{Fault, _gives_, outside, differs, head-faults, quantity-faults, caps-faults}
+use Rattle.model.specs.Reading.{Answer, refused, granted, then, at-head, at-transition, read-from}
 use Rattle.model.specs.Index.{transition-at, Indexed}
 use Rattle.model.specs.Refusal.{number, place, summary, Answers}
 

@@ -8,8 +8,8 @@ use Rattle.model.specs.declared.Refusal.the-variants.{TooManyWords, Budg
 use Rattle.model.specs.declared.Accepted.{Accepted}
 use Rattle.model.specs.declared.Reading.{Reading}
 use Rattle.model.specs.declared.Reading.the-variants.{Accepted as accepted, Refused as refusal}
-use Rattle.model.specs.Model.{Net, Limits, Model}
-use Rattle.model.specs.Reading.{Answer, refused, granted, read}
+use Rattle.model.specs.Model.{Model}
+use Rattle.model.specs.Reading.{refused, granted, read}
 use Rattle.model.specs.Index.{Indexed}
 
 -- the numbers of document 01's list

@@ -1,5 +1,5 @@
 // A state's slots in the index of exits: 16 for each state, which hold the numbers of its exits in the table.
-
+use crate::words::word_at;
 ghost use Prim.Native.Nat.{ℕ, _+_, _*_, _≤_, _<_};
 ghost use mathlib.Core.Path.{_≡_};
 ghost use lib.ListN.{getD, set, replicate};
@@ -35,7 +35,7 @@ pub(crate) fn stood(
     while i < n {
         let j = wide(slots[s * 16 + i]);
         let at = wide(places[j]);
-        if w == words[at] {
+        if w == word_at(&words[at..]) {
             return true;
         }
         i += 1;

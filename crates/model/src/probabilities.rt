@@ -3,6 +3,7 @@ use crate::index::small;
 use crate::index::wide;
 use crate::words::is_fast;
 use crate::words::quantity_at;
+use crate::words::word_at;
 ghost use Prim.Native.Nat.{ℕ, _-_, _*_, _^_, _≤_};
 ghost use mathlib.Core.Path.{_≡_};
 ghost use lib.ListN.{getD};
@@ -50,7 +51,7 @@ fn uneven(words: &[u32], slots: &[u16; 16016], places: &[u16; 4000], s: usize, n
     while i < n {
         let j = wide(slots[s * 16 + i]);
         let at = wide(places[j]);
-        if is_fast(words[at]) {
+        if is_fast(word_at(&words[at..])) {
             any = true;
             let third = at + 3;
             sum = sum + units(&words[third..]);

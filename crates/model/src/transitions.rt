@@ -13,6 +13,7 @@ use crate::words::is_fast;
 use crate::words::kind;
 use crate::words::origin;
 use crate::words::target;
+use crate::words::word_at;
 ghost use Prim.Native.Nat.{_≤_, _<_};
 ghost use mathlib.Core.Path.{_≡_};
 ghost use mathlib.Core.Logic.{_⊎_};
@@ -106,7 +107,7 @@ fn tested(
     requires { ⌜ parts.AtTransition a (now words) at known (now slots) (now counts) (now places) ⌝ }
     ensures { λ r. ⌜ parts.Tested a (now (words .entry)) at known (now (slots .entry)) (now (counts .entry)) (now (places .entry)) r ⌝ }
 {
-    let w = words[at];
+    let w = word_at(&words[at..]);
     if let Verdict::Refused(f) = ends(w, at, a.states) {
         return Verdict::Refused(f);
     }
@@ -134,7 +135,7 @@ fn transition(
     if let Verdict::Refused(f) = tested(words, a, at, known, slots, counts, places) {
         return Step::Refused(f);
     }
-    let w = words[at];
+    let w = word_at(&words[at..]);
     enter(origin(w), known, at, slots, counts, places);
     if is_fast(w) {
         return Step::To(at + 4);
@@ -174,7 +175,7 @@ fn next(
     if words.len() <= at {
         return Step::Refused(Refusal::WrongKind(at));
     }
-    let k = kind(words[at]);
+    let k = kind(word_at(&words[at..]));
     if k == 5 {
         return transition(words, a, at, known, slots, counts, places);
     }

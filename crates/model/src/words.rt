@@ -71,6 +71,16 @@ pub fn is_fast(w: u32) -> bool
     kind(w) == 7
 }
 
+// A transition's word, which the part begins with; zero of no word.
+pub fn word_at(part: &[u32]) -> u32
+    ensures { λ r. ⌜ r ≡ getD (now (part .entry)) 0 0 ⌝ }
+{
+    if part.len() == 0 {
+        return 0;
+    }
+    part[0]
+}
+
 // The quantity at the part's first word; zero of no word.
 pub fn quantity_at(part: &[u32]) -> Quantity
     ensures { λ r. ⌜ r ≡ fields.quantity (getD (now (part .entry)) 0 0) ⌝ }

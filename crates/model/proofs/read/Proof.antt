@@ -1,7 +1,5 @@
 -- `model::read` meets its contract: the first of the tests that holds is the definition's. Assumes nothing.
-use Prim.Native.Nat.{ℕ, _≤_, _<_}
-use mathlib.Core.Path.{_≡_, refl}
-use native.Mathlib.Omega.{arith}
+use mathlib.Core.Path.{refl}
 use Rattle.model.proofs.Refusals.{Called, below-test, above-test, read-too-long, read-bad-budget, read-bad-word}
 use borrow.Author.Needs.{needs}
 use Rattle.model.proofs.read.Statement.{statement}

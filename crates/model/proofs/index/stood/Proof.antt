@@ -1,6 +1,6 @@
 -- `model::index::stood` meets its contract: whether w is among the words of the slots from i on is whether it is among them all.
 -- Assumes nothing.
-use Prim.Native.Nat.{ℕ, _+_, _-_, _*_, _≤_, _<_}
+use Prim.Native.Nat.{ℕ, _+_, _-_, _≤_, _<_}
 use mathlib.Core.List.{_∷_}
 use mathlib.Core.Path.{_≡_, sym, ap, _∙_}
 use native.Mathlib.Omega.{arith}
@@ -9,7 +9,8 @@ use lib.Dec.{eqb}
 use borrow.Author.Needs.{needs}
 use borrow.Author.Tests.{eq-eqb, ne-eqb}
 use Rattle.model.specs.Model.{any}
-use Rattle.model.specs.Parts.{along, slot-place, slot-words, Leads}
+use Rattle.model.specs.Parts.{along, slot-place, slot-words}
+use Rattle.model.proofs.Steps.{part-word}
 use Rattle.model.proofs.Along.{along-all, along-turn, along-none, any-first, any-rest, any-empty}
 use Rattle.model.proofs.index.stood.Statement.{statement}
 use Rattle.model.proofs.index.stood.Tie as tie
@@ -20,9 +21,16 @@ Inv-loop words slots places s n w i₀ i = (i ≤ n) × (any (eqb w) (along (λ 
 abbrev μ-loop : tie.MeasureT-loop
 μ-loop words slots places s n w i₀ i = n - i
 
--- in a turn: the place of the slot's word, and that all is the slot's word and the rest
-place-is : (c : tie.After-wide2 Inv-loop μ-loop) → c .wide2 .result ≡ slot-place (c .before .before .before .before .before .before .before .args .slots .now) (c .before .before .before .before .before .before .before .args .places .now) (c .before .before .before .before .before .before .before .args .s) (c .before .before .before .before .before .loop .i)
+-- in a turn: the place of the slot's word, the word, and that all is the slot's word and the rest
+place-is : (c : tie.After-wide2 Inv-loop μ-loop) → let a = c .before .before .before .before .before .before .before .args in c .wide2 .result ≡ slot-place (a .slots .now) (a .places .now) (a .s) (c .before .before .before .before .before .loop .i)
 place-is c = c .wide2 .ensures .0 ∙ ap (λ (k : ℕ). getD (c .before .before .before .before .before .before .before .args .places .now) k 0) (c .before .before .wide .ensures .0)
+
+inside : (c : tie.After-wide2 Inv-loop μ-loop) → c .wide2 .result < length (c .before .before .before .before .before .before .before .args .words .now)
+inside c = rw (place-is c) (c .before .before .before .before .before .before .before .pre .inside (c .before .before .before .before .before .loop .i) (c .before .before .before .before .loop-test .taken))
+
+word-is : (c : tie.After-word-at Inv-loop μ-loop) → let a = c .before .before .before .before .before .before .before .before .before .args in
+    c .word-at .result ≡ getD (a .words .now) (slot-place (a .slots .now) (a .places .now) (a .s) (c .before .before .before .before .before .before .before .loop .i)) 0
+word-is c = c .word-at .ensures ∙ part-word (c .before .before .before .before .before .before .before .before .before .args .words .now) (c .before .before .wide2 .result) ∙ ap (λ (k : ℕ). getD (c .before .before .before .before .before .before .before .before .before .args .words .now) k 0) (place-is (c .before .before))
 
 turn : (c : tie.After-wide2 Inv-loop μ-loop) → let a = c .before .before .before .before .before .before .before .args in let i = c .before .before .before .before .before .loop .i in
     any (eqb (a .w)) (slot-words (a .words .now) (a .slots .now) (a .places .now) (a .s) (a .n))
@@ -56,17 +64,26 @@ element-copy-out-wide-2 c = rw (c .wide .ensures .0) (c .before .before .before 
 wide-requires-2 : tie.Need-wide-requires-2 Inv-loop μ-loop
 wide-requires-2 c κs = search needs
 
-mul-if1 : tie.Need-mul-if1 Inv-loop μ-loop
-mul-if1 c = omega (arith, c .wide2 .ensures .1)
+mul-word-at : tie.Need-mul-word-at Inv-loop μ-loop
+mul-word-at c = omega (arith, c .wide2 .ensures .1)
 
-shared-slice-read-if1 : tie.Need-shared-slice-read-if1 Inv-loop μ-loop
-shared-slice-read-if1 c = rw (place-is (c .before)) (c .before .before .before .before .before .before .before .before .pre .inside (c .before .before .before .before .before .before .loop .i) (c .before .before .before .before .before .loop-test .taken))
+sub-word-at : tie.Need-sub-word-at Inv-loop μ-loop
+sub-word-at c = omega (arith, inside c)
+
+part-word-at-start : tie.Need-part-word-at-start Inv-loop μ-loop
+part-word-at-start c = omega (arith, inside c)
+
+part-word-at-end : tie.Need-part-word-at-end Inv-loop μ-loop
+part-word-at-end c = search needs
+
+word-at-requires : tie.Need-word-at-requires Inv-loop μ-loop
+word-at-requires c κs = search needs
 
 returns : tie.Need-returns Inv-loop μ-loop
 returns c =
-    let at = c .before .before in
-    let a = c .before .before .before .before .before .before .before .before .before .args in
-    sym (turn at ∙ any-first (eqb (a .w)) _ _ (eq-eqb (a .w) _ (c .if1 .taken ∙ ap (λ (k : ℕ). getD (a .words .now) k 0) (place-is at))))
+    let at = c .before .before .before in
+    let a = c .before .before .before .before .before .before .before .before .before .before .args in
+    sym (turn at ∙ any-first (eqb (a .w)) _ _ (eq-eqb (a .w) _ (c .if1 .taken ∙ word-is (c .before))))
 
 add-i : tie.Need-add-i Inv-loop μ-loop
 add-i c = omega arith
@@ -76,11 +93,9 @@ loop-less c = omega arith
 
 loop-again : tie.Need-loop-again Inv-loop μ-loop
 loop-again c =
-    let at = c .before .before in
-    let a = c .before .before .before .before .before .before .before .before .before .args in (
-      omega arith,
-      sym (turn at ∙ any-rest (eqb (a .w)) _ _ (ne-eqb (a .w) _ (λ e. c .if1 .left (e ∙ ap (λ (k : ℕ). getD (a .words .now) k 0) (sym (place-is at)))))),
-    )
+    let at = c .before .before .before in
+    let a = c .before .before .before .before .before .before .before .before .before .before .args in
+    (omega arith, sym (turn at ∙ any-rest (eqb (a .w)) _ _ (ne-eqb (a .w) _ (λ e. c .if1 .left (e ∙ sym (word-is (c .before)))))))
 
 returns-2 : tie.Need-returns-2 Inv-loop μ-loop
 returns-2 c =
@@ -102,8 +117,11 @@ stood-spec =
     mul-wide-3
     element-copy-out-wide-2
     wide-requires-2
-    mul-if1
-    shared-slice-read-if1
+    mul-word-at
+    sub-word-at
+    part-word-at-start
+    part-word-at-end
+    word-at-requires
     returns
     add-i
     loop-less

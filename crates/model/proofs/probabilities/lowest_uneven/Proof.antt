@@ -1,10 +1,8 @@
 -- `model::probabilities::lowest_uneven` meets its contract: the lowest from s on is the lowest of all. Assumes nothing.
-use Prim.Native.Nat.{ℕ, suc, _+_, _-_, _≤_, _<_}
+use Prim.Native.Nat.{ℕ, suc, _+_, _-_, _≤_}
 use mathlib.Core.Path.{_≡_, refl, sym, ap, _∙_}
-use mathlib.Core.Bool.{Bool}
 use native.Mathlib.Omega.{arith}
 use native.Mathlib.Numerals.{add-one}
-use lib.ListN.{getD}
 use borrow.Author.Needs.{needs}
 use Rattle.model.specs.Model.{Net}
 use Rattle.model.specs.Reading.{uneven, lowest-uneven}

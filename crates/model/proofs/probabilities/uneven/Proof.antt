@@ -1,20 +1,20 @@
 -- `model::probabilities::uneven` meets its contract: a running sum over the exits that the slots lead to. Assumes nothing.
-use Prim.Native.Nat.{ℕ, _+_, _-_, _*_, _≤_, _<_}
-use mathlib.Core.Path.{_≡_, refl, sym, ap, _∙_}
+use Prim.Native.Nat.{ℕ, _+_, _-_, _≤_, _<_}
+use mathlib.Core.Path.{_≡_, sym, ap, _∙_}
 use mathlib.Core.Bool.{Bool, _&&_}
-use mathlib.Core.List.{List, [], _∷_}
+use mathlib.Core.List.{_∷_}
 use mathlib.Core.Logic.{⊎-elim}
 use native.Mathlib.Omega.{arith}
 use lib.ListN.{length, getD, drop}
+use lib.Dec.{eqb}
 use borrow.Author.Needs.{needs}
 use borrow.Author.Tests.{eqb-true, eqb-false}
-use Rattle.model.specs.Model.{Transition}
 use Rattle.model.specs.Words.{kind}
 use Rattle.model.specs.Faults.{differs}
 use Rattle.model.specs.Index.{transition-at}
 use Rattle.model.specs.Parts.{along, slot-place, slot-transitions, sums-uneven}
 use Rattle.model.proofs.Along.{along-all, along-turn, along-none}
-use Rattle.model.proofs.Steps.{part-from}
+use Rattle.model.proofs.Steps.{part-from, part-word}
 use Rattle.model.proofs.Units.{Summed, summed-none, summed-fast-word, summed-slow-word, summed-all}
 use Rattle.model.proofs.probabilities.uneven.Statement.{statement}
 use Rattle.model.proofs.probabilities.uneven.Tie as tie
@@ -25,17 +25,25 @@ Inv-loop words slots places s n sum₀ any₀ i₀ sum any i = (i ≤ n) × Summ
 abbrev μ-loop : tie.MeasureT-loop
 μ-loop words slots places s n sum₀ any₀ i₀ sum any i = n - i
 
-place-is : (c : tie.After-wide2 Inv-loop μ-loop) → c .wide2 .result ≡ slot-place (c .before .before .before .before .before .before .before .args .slots .now) (c .before .before .before .before .before .before .before .args .places .now) (c .before .before .before .before .before .before .before .args .s) (c .before .before .before .before .before .loop .i)
+place-is : (c : tie.After-wide2 Inv-loop μ-loop) → let a = c .before .before .before .before .before .before .before .args in c .wide2 .result ≡ slot-place (a .slots .now) (a .places .now) (a .s) (c .before .before .before .before .before .loop .i)
 place-is c = c .wide2 .ensures .0 ∙ ap (λ (k : ℕ). getD (c .before .before .before .before .before .before .before .args .places .now) k 0) (c .before .before .wide .ensures .0)
 
--- the slot's word is a fast transition's, with its three words behind it
-is-seven : (c : tie.Then1 Inv-loop μ-loop) → kind (getD (c .before .before .before .before .before .before .before .before .before .before .args .words .now) (c .before .before .before .wide2 .result) 0) ≡ 7
-is-seven c = eqb-true _ 7 (sym (c .before .is-fast .ensures) ∙ c .if1 .taken)
+inside : (c : tie.After-wide2 Inv-loop μ-loop) → c .wide2 .result < length (c .before .before .before .before .before .before .before .args .words .now)
+inside c = rw (place-is c) (c .before .before .before .before .before .before .before .pre .inside (c .before .before .before .before .before .loop .i) (c .before .before .before .before .loop-test .taken))
 
-whole : (c : tie.Then1 Inv-loop μ-loop) → c .before .before .before .wide2 .result + 3 < length (c .before .before .before .before .before .before .before .before .before .before .args .words .now)
+-- whether the slot's word is a fast transition's, which has three words behind it
+fast-is : (c : tie.After-is-fast Inv-loop μ-loop) → c .is-fast .result ≡ eqb (kind (getD (c .before .before .before .before .before .before .before .before .before .before .args .words .now) (c .before .before .before .wide2 .result) 0)) 7
+fast-is c =
+    c .is-fast .ensures
+    ∙ ap (λ (w : ℕ). eqb (kind w) 7) (c .before .word-at .ensures ∙ part-word (c .before .before .before .before .before .before .before .before .before .before .args .words .now) (c .before .before .before .wide2 .result))
+
+is-seven : (c : tie.Then1 Inv-loop μ-loop) → kind (getD (c .before .before .before .before .before .before .before .before .before .before .before .args .words .now) (c .before .before .before .before .wide2 .result) 0) ≡ 7
+is-seven c = eqb-true _ 7 (sym (fast-is (c .before)) ∙ c .if1 .taken)
+
+whole : (c : tie.Then1 Inv-loop μ-loop) → c .before .before .before .before .wide2 .result + 3 < length (c .before .before .before .before .before .before .before .before .before .before .before .args .words .now)
 whole c =
-    let at = c .before .before .before in
-    rw (place-is at) (c .before .before .before .before .before .before .before .before .before .before .pre .whole (c .before .before .before .before .before .before .before .before .loop .i) (c .before .before .before .before .before .before .before .loop-test .taken) (rw (place-is at) at (is-seven c)))
+    let at = c .before .before .before .before in
+    rw (place-is at) (c .before .before .before .before .before .before .before .before .before .before .before .pre .whole (c .before .before .before .before .before .before .before .before .before .loop .i) (c .before .before .before .before .before .before .before .before .loop-test .taken) (rw (place-is at) at (is-seven c)))
 
 -- what is still to come in a turn is the slot's exit and the rest
 turn : (c : tie.After-wide2 Inv-loop μ-loop) → let a = c .before .before .before .before .before .before .before .args in let l = c .before .before .before .before .before .loop in
@@ -77,20 +85,29 @@ element-copy-out-wide-2 c = rw (c .wide .ensures .0) (c .before .before .before 
 wide-requires-2 : tie.Need-wide-requires-2 Inv-loop μ-loop
 wide-requires-2 c κs = search needs
 
-mul-is-fast : tie.Need-mul-is-fast Inv-loop μ-loop
-mul-is-fast c = omega (arith, c .wide2 .ensures .1)
+mul-word-at : tie.Need-mul-word-at Inv-loop μ-loop
+mul-word-at c = omega (arith, c .wide2 .ensures .1)
 
-shared-slice-read-is-fast : tie.Need-shared-slice-read-is-fast Inv-loop μ-loop
-shared-slice-read-is-fast c = rw (place-is (c .before)) (c .before .before .before .before .before .before .before .before .pre .inside (c .before .before .before .before .before .before .loop .i) (c .before .before .before .before .before .loop-test .taken))
+sub-word-at : tie.Need-sub-word-at Inv-loop μ-loop
+sub-word-at c = omega (arith, inside c)
+
+part-word-at-start : tie.Need-part-word-at-start Inv-loop μ-loop
+part-word-at-start c = omega (arith, inside c)
+
+part-word-at-end : tie.Need-part-word-at-end Inv-loop μ-loop
+part-word-at-end c = search needs
+
+word-at-requires : tie.Need-word-at-requires Inv-loop μ-loop
+word-at-requires c κs = search needs
 
 is-fast-requires : tie.Need-is-fast-requires Inv-loop μ-loop
 is-fast-requires c κs = search needs
 
 add-third : tie.Need-add-third Inv-loop μ-loop
-add-third c = omega (arith, c .before .before .before .wide2 .ensures .1)
+add-third c = omega (arith, c .before .before .before .before .wide2 .ensures .1)
 
 mul-units : tie.Need-mul-units Inv-loop μ-loop
-mul-units c = omega (arith, c .before .before .before .wide2 .ensures .1)
+mul-units c = omega (arith, c .before .before .before .before .wide2 .ensures .1)
 
 sub-units : tie.Need-sub-units Inv-loop μ-loop
 sub-units c = omega (arith, whole c)
@@ -105,7 +122,7 @@ units-requires : tie.Need-units-requires Inv-loop μ-loop
 units-requires c κs = search needs
 
 add-sum : tie.Need-add-sum Inv-loop μ-loop
-add-sum c = omega (arith, c .before .before .before .before .before .before .before .before .before .before .loop .inv .1 .high, c .before .before .before .before .before .before .before .before .before .before .before .before .pre .few, c .units .ensures .1)
+add-sum c = omega (arith, c .before .before .before .before .before .before .before .before .before .before .before .loop .inv .1 .high, c .before .before .before .before .before .before .before .before .before .before .before .before .before .pre .few, c .units .ensures .1)
 
 add-i : tie.Need-add-i Inv-loop μ-loop
 add-i c = omega arith
@@ -115,16 +132,16 @@ loop-less c = omega arith
 
 loop-again : tie.Need-loop-again Inv-loop μ-loop
 loop-again c =
-    let at = c .before .before .before in
-    let a = c .before .before .before .before .before .before .before .before .before .before .args in
-    let l = c .before .before .before .before .before .before .before .before .loop in (
+    let at = c .before .before .before .before in
+    let a = c .before .before .before .before .before .before .before .before .before .before .before .args in
+    let l = c .before .before .before .before .before .before .before .before .before .loop in (
       omega arith,
       ⊎-elim
           (λ w. rw (w .3, w .4)
-          (summed-fast-word (a .words .now) (at .wide2 .result) _ _ (l .i) (l .sum) (l .any) (turn at) (eqb-true _ 7 (sym (c .before .is-fast .ensures) ∙ w .0 .taken)) (w .2 .result)
-          (rw part-from at (w .2 .ensures .0)) (w .2 .ensures .1)))
+          (summed-fast-word (a .words .now) (at .wide2 .result) _ _ (l .i) (l .sum) (l .any) (turn at) (eqb-true _ 7 (sym (fast-is (c .before)) ∙ w .0 .taken))
+          (w .2 .result) (rw part-from at (w .2 .ensures .0)) (w .2 .ensures .1)))
           (λ w. rw (w .1, w .2)
-          (summed-slow-word (a .words .now) (at .wide2 .result) _ _ (l .i) (l .sum) (l .any) (turn at) (eqb-false _ 7 (sym (c .before .is-fast .ensures) ∙ w .0 .left))))
+          (summed-slow-word (a .words .now) (at .wide2 .result) _ _ (l .i) (l .sum) (l .any) (turn at) (eqb-false _ 7 (sym (fast-is (c .before)) ∙ w .0 .left))))
           (c .if1 .came),
     )
 
@@ -149,8 +166,11 @@ uneven-spec =
     mul-wide-3
     element-copy-out-wide-2
     wide-requires-2
-    mul-is-fast
-    shared-slice-read-is-fast
+    mul-word-at
+    sub-word-at
+    part-word-at-start
+    part-word-at-end
+    word-at-requires
     is-fast-requires
     add-third
     mul-units

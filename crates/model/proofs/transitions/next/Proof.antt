@@ -1,31 +1,46 @@
 -- `model::transitions::next` meets its contract. Assumes nothing.
-use mathlib.Core.Path.{_≡_, sym, _∙_}
-use mathlib.Core.Logic.{inl, inr}
-use Rattle.model.proofs.Turn.{turn-out, turn-other, turn-end}
 use borrow.Author.Needs.{needs}
+use mathlib.Core.Path.{_≡_, sym, ap, _∙_}
+use mathlib.Core.Logic.{inl, inr}
+use lib.ListN.{getD}
+use Rattle.model.specs.Words.{kind}
+use Rattle.model.proofs.Steps.{part-word}
+use Rattle.model.proofs.Turn.{turn-out, turn-other, turn-end}
 use Rattle.model.proofs.transitions.next.Statement.{statement}
 use Rattle.model.proofs.transitions.next.Tie as tie
+
+kind-is : (c : tie.After-kind) → let a = c .before .before .before .before .before .args in c .kind .result ≡ kind (getD (a .words .now) (a .at) 0)
+kind-is c = let a = c .before .before .before .before .before .args in c .kind .ensures ∙ ap kind (c .before .word-at .ensures ∙ part-word (a .words .now) (a .at))
 
 returns : tie.Need-returns
 returns c = turn-out _ _ _ _ _ _ _ (c .before .before .pre .0) (c .if1 .taken)
 
-mul-kind : tie.Need-mul-kind
-mul-kind c = search needs
+mul-word-at : tie.Need-mul-word-at
+mul-word-at c = search needs
 
-shared-slice-read-kind : tie.Need-shared-slice-read-kind
-shared-slice-read-kind c = search needs
+sub-word-at : tie.Need-sub-word-at
+sub-word-at c = search needs
+
+part-word-at-start : tie.Need-part-word-at-start
+part-word-at-start c = search needs
+
+part-word-at-end : tie.Need-part-word-at-end
+part-word-at-end c = search needs
+
+word-at-requires : tie.Need-word-at-requires
+word-at-requires c κs = search needs
 
 kind-requires : tie.Need-kind-requires
 kind-requires c κs = search needs
 
 transition-requires : tie.Need-transition-requires
-transition-requires c κs = record { begun = c .before .before .before .before .before .before .before .before .pre .0; short = c .before .before .before .before .before .before .before .before .pre .1; inside = c .before .before .before .before .before .before .if1 .left; kind-is = inl (sym (c .before .before .before .before .kind .ensures) ∙ c .before .before .before .if2 .taken) }
+transition-requires c κs = record { begun = c .before .before .before .before .before .before .before .before .before .pre .0; short = c .before .before .before .before .before .before .before .before .before .pre .1; inside = c .before .before .before .before .before .before .before .if1 .left; kind-is = inl (sym (kind-is (c .before .before .before .before)) ∙ c .before .before .before .if2 .taken) }
 
 returns-2 : tie.Need-returns-2
 returns-2 c = search needs
 
 transition-requires-2 : tie.Need-transition-requires-2
-transition-requires-2 c κs = record { begun = c .before .before .before .before .before .before .before .before .before .pre .0; short = c .before .before .before .before .before .before .before .before .before .pre .1; inside = c .before .before .before .before .before .before .before .if1 .left; kind-is = inr (sym (c .before .before .before .before .before .kind .ensures) ∙ c .before .before .before .if3 .taken) }
+transition-requires-2 c κs = record { begun = c .before .before .before .before .before .before .before .before .before .before .pre .0; short = c .before .before .before .before .before .before .before .before .before .before .pre .1; inside = c .before .before .before .before .before .before .before .before .if1 .left; kind-is = inr (sym (kind-is (c .before .before .before .before .before)) ∙ c .before .before .before .if3 .taken) }
 
 returns-3 : tie.Need-returns-3
 returns-3 c = search needs
@@ -34,20 +49,23 @@ end-requires : tie.Need-end-requires
 end-requires c κs = search needs
 
 returns-4 : tie.Need-returns-4
-returns-4 c = turn-end _ _ _ _ _ _ _ (c .before .before .before .before .before .before .before .before .pre .0) (sym (c .before .before .before .before .kind .ensures) ∙ c .before .if4 .taken) (c .end .result) (c .end .ensures)
+returns-4 c = turn-end _ _ _ _ _ _ _ (c .before .before .before .before .before .before .before .before .before .pre .0) (sym (kind-is (c .before .before .before .before)) ∙ c .before .if4 .taken) (c .end .result) (c .end .ensures)
 
 returns-5 : tie.Need-returns-5
 returns-5 c =
-    let is = c .before .before .before .kind .ensures in
-    turn-other _ _ _ _ _ _ _ (c .before .before .before .before .before .before .before .pre .0) (c .before .before .before .before .before .if1 .left) (λ e. c .before .before .if2 .left (is ∙ e)) (λ e. c .before .if3 .left (is ∙ e)) (λ e. c .if4 .left (is ∙ e))
+    let is = kind-is (c .before .before .before) in
+    turn-other _ _ _ _ _ _ _ (c .before .before .before .before .before .before .before .before .pre .0) (c .before .before .before .before .before .before .if1 .left) (λ e. c .before .before .if2 .left (is ∙ e)) (λ e. c .before .if3 .left (is ∙ e)) (λ e. c .if4 .left (is ∙ e))
 
 pub next-spec : {M : Type 1} → statement M
 next-spec =
     tie.close
     (tie.spec
     returns
-    mul-kind
-    shared-slice-read-kind
+    mul-word-at
+    sub-word-at
+    part-word-at-start
+    part-word-at-end
+    word-at-requires
     kind-requires
     transition-requires
     returns-2
