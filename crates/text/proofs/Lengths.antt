@@ -11,7 +11,7 @@ use lib.IntN.{ℤ, pos, negsuc, _+ℤ_}
 use Rattle.figure.specs.declared.Figure.{Figure}
 use Rattle.model.specs.Reading.{Answer, refused, granted}
 use Rattle.tree.specs.Report.{Report}
-use Rattle.text.specs.Text.{decimal, digits-within, last-digits, signed-decimal, figure-text, line, lower-label, upper-label, cut-label, deaths-label, cuts-label, steps-label, refused-label, at-label, figure-lines, count-lines, refusal-text, answer-text}
+use Rattle.text.specs.Text.{ascii, decimal, digits-within, last-digits, signed-decimal, figure-text, line, figure-lines, count-lines, refusal-text, answer-text}
 use Rattle.text.proofs.Digits.{length-last, length-digits}
 use Rattle.text.proofs.Figures.{first-digit, from-point, eight-digits, from-eight, from-E, from-exponent}
 
@@ -55,29 +55,29 @@ length-three xs ys zs h k l = length-two xs (ys ++ zs) h (length-two ys zs k l)
 length-figures : (lower upper cut : Figure) → length (figure-lines lower upper cut) ≤ 115
 length-figures lower upper cut =
     length-three
-    (line lower-label (figure-text lower))
-    (line upper-label (figure-text upper))
-    (line cut-label (figure-text cut))
-    (length-figure-line lower-label lower)
-    (length-figure-line upper-label upper)
-    (length-figure-line cut-label cut)
+    (line (ascii "lower ") (figure-text lower))
+    (line (ascii "upper ") (figure-text upper))
+    (line (ascii "cut ") (figure-text cut))
+    (length-figure-line (ascii "lower ") lower)
+    (length-figure-line (ascii "upper ") upper)
+    (length-figure-line (ascii "cut ") cut)
 
 length-counts : (deaths cuts steps : ℕ) → length (count-lines deaths cuts steps) ≤ 81
 length-counts deaths cuts steps =
     length-three
-    (line deaths-label (decimal deaths))
-    (line cuts-label (decimal cuts))
-    (line steps-label (decimal steps))
-    (length-number-line deaths-label deaths)
-    (length-number-line cuts-label cuts)
-    (length-number-line steps-label steps)
+    (line (ascii "deaths ") (decimal deaths))
+    (line (ascii "cuts ") (decimal cuts))
+    (line (ascii "steps ") (decimal steps))
+    (length-number-line (ascii "deaths ") deaths)
+    (length-number-line (ascii "cuts ") cuts)
+    (length-number-line (ascii "steps ") steps)
 
 length-refusal : (number place : ℕ) → length (refusal-text number place) ≤ 44
-length-refusal number place = length-three (decimal number) at-label (decimal place) (length-digits 20 number) (le-refl 4) (length-digits 20 place)
+length-refusal number place = length-three (decimal number) (ascii " at ") (decimal place) (length-digits 20 number) (le-refl 4) (length-digits 20 place)
 
 pub answer-short : (a : Answer Report) → length (answer-text a) ≤ 256
 unfolding answer-text
-answer-short (refused number place) = le-trans (length-line refused-label (refusal-text number place) (length-refusal number place)) (lit≤ tt)
+answer-short (refused number place) = le-trans (length-line (ascii "refused ") (refusal-text number place) (length-refusal number place)) (lit≤ tt)
 answer-short (granted r) =
     le-trans
     (length-two

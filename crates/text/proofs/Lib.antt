@@ -4,3 +4,5 @@ mod Signed
 mod Figures
 mod Lengths
 pub mod Words
+pub mod Numerals
+pub mod Example

@@ -5,7 +5,7 @@ use mathlib.Core.List.{List, [], _∷_, _++_, append-nil, append-assoc}
 use native.Mathlib.Nat.{le-of-lt}
 use native.Mathlib.Omega.{arith}
 use native.Mathlib.Numerals.{add-one}
-use lib.ListN.{length, take, getD, set, length-append}
+use lib.ListN.{length, take, getD, set, length-append, length-take}
 use lib.Seq.{take-suc, take-suc-set, length-take-le}
 use Rattle.text.specs.declared.Text.{Text}
 use Rattle.text.specs.Written.{contents, Holds, Room, Added}
@@ -65,5 +65,12 @@ added-three a b c = added-then a (added-then b c)
 pub room-all : {t : Text} {xs : List ℕ} → t .len ≡ 0 → length xs ≤ 256 → Room t xs
 room-all e h = record { within = omega (arith, e, h) }
 
-pub holds-all : {t r : Text} {xs : List ℕ} → t .len ≡ 0 → length xs ≤ 256 → Added t xs r → Holds xs r
-holds-all {t} {xs = xs} e h a = record { within = omega (arith, e, h, a .longer); bytes = a .bytes ∙ ap (λ (n : ℕ). take n (t .bytes) ++ xs) e }
+pub holds-all : {t r : Text} {xs : List ℕ} → t .len ≡ 0 → Added t xs r → Holds xs r
+holds-all {t} {r} {xs} e a =
+    let same : contents r ≡ xs = a .bytes ∙ ap (λ (n : ℕ). take n (t .bytes) ++ xs) e in
+    let counted : r .len ≡ length (contents r) = omega (arith, e, a .longer, ap length same) in
+    record {
+      within = omega (arith, counted, length-take (r .len) (r .bytes));
+      counted = counted;
+      bytes = same;
+    }

@@ -9,9 +9,10 @@ use Rattle.text.specs.declared.Text.{Text}
 abbrev pub contents : Text → List ℕ
 contents t = take (t .len) (t .bytes)
 
--- r holds these bytes, and no others
+-- r holds these bytes, and no others; the first two facts are those by which `&bytes[..len]` can be lent on
 pub record Holds (xs : List ℕ) (r : Text) : Type 0 where
-  pub within : r .len ≤ 256
+  pub within : r .len ≤ length (r .bytes)
+  pub counted : r .len ≡ length (contents r)
   pub bytes : contents r ≡ xs
 
 -- there is room for these bytes behind those of t

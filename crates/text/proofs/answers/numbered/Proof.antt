@@ -2,7 +2,7 @@
 use mathlib.Core.List.{[], _∷_}
 use borrow.Author.Needs.{needs}
 use Rattle.model.specs.Reading.{refused}
-use Rattle.text.specs.Text.{refused-label, refusal-text, answer-text, line}
+use Rattle.text.specs.Text.{ascii, refusal-text, answer-text, line}
 use Rattle.text.specs.Written.{Room}
 use Rattle.text.proofs.Pieces.{added-three, room-one, room-two, room-three, room-all, holds-all}
 use Rattle.text.proofs.Lengths.{answer-short}
@@ -12,7 +12,7 @@ use Rattle.text.proofs.answers.numbered.Tie as tie
 empty-requires : tie.Need-empty-requires
 empty-requires c κs = search needs
 
-room : (c : tie.After-empty) → Room (c .empty .result) (line refused-label (refusal-text (c .before .args .number) (c .before .args .place)))
+room : (c : tie.After-empty) → Room (c .empty .result) (line (ascii "refused ") (refusal-text (c .before .args .number) (c .before .args .place)))
 unfolding answer-text
 room c = room-all (c .empty .ensures) (answer-short (refused (c .before .args .number) (c .before .args .place)))
 
@@ -22,28 +22,25 @@ slice-aggregate-with-all c = search needs
 with-all-requires : tie.Need-with-all-requires
 with-all-requires c κs =
     let a = c .before .before .args in
-    room-one refused-label (refusal-text (a .number) (a .place)) (10 ∷ []) (room (c .before))
+    room-one (ascii "refused ") (refusal-text (a .number) (a .place)) (10 ∷ []) (room (c .before))
 
 with-refusal-requires : tie.Need-with-refusal-requires
 with-refusal-requires c κs =
     let b = c .before .before in
     let a = b .before .args in
-    room-two refused-label (refusal-text (a .number) (a .place)) (10 ∷ []) (room b) (c .with-all .ensures)
+    room-two (ascii "refused ") (refusal-text (a .number) (a .place)) (10 ∷ []) (room b) (c .with-all .ensures)
 
 with-requires : tie.Need-with-requires
 with-requires c κs =
     let b = c .before .before .before in
     let a = b .before .args in
-    room-three refused-label (refusal-text (a .number) (a .place)) (10 ∷ []) (room b) (c .before .with-all .ensures) (c .with-refusal .ensures)
+    room-three (ascii "refused ") (refusal-text (a .number) (a .place)) (10 ∷ []) (room b) (c .before .with-all .ensures) (c .with-refusal .ensures)
 
 returns : tie.Need-returns
 unfolding answer-text
 returns c =
     let b = c .before .before .before .before in
-    holds-all
-    (b .empty .ensures)
-    (answer-short (refused (b .before .args .number) (b .before .args .place)))
-    (added-three (c .before .before .with-all .ensures) (c .before .with-refusal .ensures) (c .with .ensures))
+    holds-all (b .empty .ensures) (added-three (c .before .before .with-all .ensures) (c .before .with-refusal .ensures) (c .with .ensures))
 
 pub numbered-spec : {M : Type 1} → statement M
 numbered-spec =

@@ -42,7 +42,7 @@ returns : tie.Need-returns
 unfolding answer-text
 returns c =
     let b = c .before .before in
-    holds-all (b .empty .ensures) (answer-short (granted (report (b .before)))) (added-then (c .before .with-figures .ensures) (c .with-counts .ensures))
+    holds-all (b .empty .ensures) (added-then (c .before .with-figures .ensures) (c .with-counts .ensures))
 
 pub report-text-spec : {M : Type 1} → statement M
 report-text-spec = tie.close (tie.spec empty-requires with-figures-requires with-counts-requires returns)
