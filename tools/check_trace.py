@@ -1,0 +1,168 @@
+"""Checks docs/TRACE.md, docs/CLAIMS.md and docs/ARCHITECTURE.md: each file that they name exists, and each name stands in the file named with it.
+
+    python3 tools/check_trace.py              files and names
+    python3 tools/check_trace.py DOCUMENT     also each sentence of the trace, word for word, and that none of the document is left out
+
+In a cell of the trace's tables and in a list's item of the claims, what stands in backticks is a file (it has a slash and a suffix) or a name, which
+belongs to the file before it in that cell or item. Of the architecture only files are looked at. Files are below crates/ or else below the
+repository's root. In the trace's column of vectors a name without a file is a model of reference/tests/data/models.txt or papers.txt, and one letter
+is one of document 01's models A to L, as the list in crates/tree/specs/Marked.antt has it. A cell that holds only a dash is empty. Ends with 0 if
+nothing is wrong, else with 1.
+"""
+import re
+import sys
+from pathlib import Path
+
+ROOT = Path(__file__).resolve().parent.parent
+TRACE, CLAIMS, ARCHITECTURE = "docs/TRACE.md", "docs/CLAIMS.md", "docs/ARCHITECTURE.md"
+MODELS = ["reference/tests/data/models.txt", "reference/tests/data/papers.txt"]
+MARKED = "tree/specs/Marked.antt"
+EMPTY = "—"
+FILE = re.compile(r"[\w+.-]+(/[\w+.-]+)+\.\w+")
+PART_OF_NAME = r"[\w\-′ᶠ·]"
+
+
+def found(path):
+    """The file below crates/ or below the root, or None."""
+    for place in (ROOT / "crates" / path, ROOT / path):
+        if place.is_file():
+            return place
+    return None
+
+
+def stands(name, text):
+    return re.search(rf"(?<!{PART_OF_NAME}){re.escape(name)}(?!{PART_OF_NAME})", text) is not None
+
+
+def quoted(text):
+    return re.findall(r"`([^`]+)`", text)
+
+
+class Trace:
+    """What the tables say, and what is wrong with it."""
+
+    def __init__(self):
+        self.rows, self.files, self.names, self.empty, self.wrong = 0, set(), 0, 0, []
+        self.sentences, self.texts, self.document = [], {}, TRACE
+
+    def text(self, path):
+        if path not in self.texts:
+            place = found(path)
+            self.texts[path] = place.read_text(encoding="utf-8") if place else None
+        return self.texts[path]
+
+    def fail(self, line, words):
+        self.wrong.append(f"{self.document}:{line}: {words}")
+
+    def file(self, line, path):
+        self.files.add(path)
+        if found(path) is None:
+            self.fail(line, f"there is no file {path}")
+
+    def name(self, line, path, name):
+        self.names += 1
+        text = self.text(path)
+        if text is not None and not stands(name, text):
+            self.fail(line, f"{name} does not stand in {path}")
+
+    def vector(self, line, name):
+        self.names += 1
+        if re.fullmatch("[A-L]", name):
+            if not re.search(rf"^\s*-- {name}(:|$)", self.text(MARKED) or "", re.M):
+                self.fail(line, f"model {name} does not stand in {MARKED}")
+        elif not any(re.search(rf"^{re.escape(name)} ", self.text(m) or "", re.M) for m in MODELS):
+            self.fail(line, f"no model is called {name}")
+
+    def cell(self, line, cell, vectors):
+        if cell == EMPTY:
+            self.empty += 1
+            return
+        if not cell:
+            self.fail(line, "a cell without a dash is empty")
+        path = None
+        for item in quoted(cell):
+            if FILE.fullmatch(item):
+                path = item
+                self.file(line, path)
+            elif path is not None:
+                self.name(line, path, item)
+            elif vectors:
+                self.vector(line, item)
+            else:
+                self.fail(line, f"{item} has no file before it")
+
+    def claims(self):
+        """The items that begin by a dash, each with the lines that are indented below it, and the files of the other lines."""
+        self.document = CLAIMS
+        item = False
+        for line, text in enumerate(self.text(CLAIMS).splitlines(), 1):
+            item = text.startswith("- Says so:") or text.startswith("- Would show it false:") or item and text.startswith("  ")
+            path = path if item and text.startswith("  ") else None
+            for word in quoted(text):
+                if FILE.fullmatch(word):
+                    path = word
+                    self.file(line, path)
+                elif item:
+                    self.name(line, path, word) if path else self.fail(line, f"{word} has no file before it")
+
+    def architecture(self):
+        self.document = ARCHITECTURE
+        for line, text in enumerate(self.text(ARCHITECTURE).splitlines(), 1):
+            for word in filter(FILE.fullmatch, quoted(text)):
+                self.file(line, word)
+
+    def read(self):
+        columns = []
+        for line, row in enumerate(self.text(TRACE).splitlines(), 1):
+            if not row.startswith("|"):
+                columns = []
+                continue
+            cells = [c.strip() for c in row.strip().strip("|").split("|")]
+            if not columns:
+                columns = cells
+            elif set(row) - set("|-: "):
+                self.rows += 1
+                if len(cells) != len(columns):
+                    self.fail(line, f"{len(cells)} cells in a table of {len(columns)} columns")
+                self.sentences.append((line, cells[0]))
+                for column, cell in zip(columns[1:], cells[1:]):
+                    self.cell(line, cell, column == "Vector")
+
+
+def plain(text):
+    """Text without marks and headings, in one line."""
+    lines = [l for l in text.splitlines() if not l.startswith(("#", "```"))]
+    lines = [re.sub(r"^\s*- ", "", l) for l in lines]
+    return re.sub(r"\s+", " ", " ".join(lines).replace("`", "")).strip()
+
+
+def compare(trace, document):
+    """Each sentence stands in the document, and nothing of the document stands in no sentence."""
+    text = plain(Path(document).read_text(encoding="utf-8"))
+    covered = bytearray(len(text))
+    for line, sentence in trace.sentences:
+        for part in plain(sentence).split(" … "):
+            at = text.find(part)
+            if at < 0:
+                trace.fail(line, f"the document does not say: {part}")
+            while at >= 0:
+                covered[at : at + len(part)] = b"\1" * len(part)
+                at = text.find(part, at + 1)
+    left = "".join(c if not covered[i] else "\n" for i, c in enumerate(text))
+    for rest in filter(lambda r: re.search(r"\w", r), left.split("\n")):
+        trace.wrong.append(f"no row has: {rest.strip()}")
+
+
+def main(arguments):
+    trace = Trace()
+    trace.read()
+    if arguments:
+        compare(trace, arguments[0])
+    trace.claims()
+    trace.architecture()
+    print("\n".join(trace.wrong), end="\n" if trace.wrong else "")
+    print(f"{trace.rows} rows, {len(trace.files)} files, {trace.names} names, {trace.empty} empty cells, {len(trace.wrong)} wrong")
+    return 1 if trace.wrong or not trace.rows else 0
+
+
+sys.exit(main(sys.argv[1:]))
