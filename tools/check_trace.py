@@ -4,7 +4,8 @@
     python3 tools/check_trace.py DOCUMENT     also each sentence of the trace, word for word, and that none of the document is left out
 
 In a cell of the trace's tables and in a list's item of the claims, what stands in backticks is a file (it has a slash and a suffix) or a name, which
-belongs to the file before it in that cell or item. Of the architecture only files are looked at. Files are below crates/ or else below the
+belongs to the file before it in that cell or item. Of the architecture only files are looked at, but for those with a word such as NAME in
+their path. Files are below crates/ or else below the
 repository's root. In the trace's column of vectors a name without a file is a model of reference/tests/data/models.txt or papers.txt, and one letter
 is one of document 01's models A to L, as the list in crates/tree/specs/Marked.antt has it. A cell that holds only a dash is empty. Ends with 0 if
 nothing is wrong, else with 1.
@@ -19,6 +20,7 @@ MODELS = ["reference/tests/data/models.txt", "reference/tests/data/papers.txt"]
 MARKED = "tree/specs/Marked.antt"
 EMPTY = "—"
 FILE = re.compile(r"[\w+.-]+(/[\w+.-]+)+\.\w+")
+STANDS_FOR = re.compile(r"(^|/)\+?(NAME|MODULE|TYPE|FUNCTION|METHOD|SUBJECT|LABEL)[/.]")
 PART_OF_NAME = r"[\w\-′ᶠ·]"
 
 
@@ -55,7 +57,7 @@ class Trace:
         self.wrong.append(f"{self.document}:{line}: {words}")
 
     def file(self, line, path):
-        self.files.add(path)
+        self.files.add(found(path) or path)
         if found(path) is None:
             self.fail(line, f"there is no file {path}")
 
@@ -95,7 +97,7 @@ class Trace:
         """The items that begin by a dash, each with the lines that are indented below it, and the files of the other lines."""
         self.document = CLAIMS
         item = False
-        for line, text in enumerate(self.text(CLAIMS).splitlines(), 1):
+        for line, text in enumerate((self.text(CLAIMS) or "").splitlines(), 1):
             item = text.startswith("- Says so:") or text.startswith("- Would show it false:") or item and text.startswith("  ")
             path = path if item and text.startswith("  ") else None
             for word in quoted(text):
@@ -107,13 +109,14 @@ class Trace:
 
     def architecture(self):
         self.document = ARCHITECTURE
-        for line, text in enumerate(self.text(ARCHITECTURE).splitlines(), 1):
+        for line, text in enumerate((self.text(ARCHITECTURE) or "").splitlines(), 1):
             for word in filter(FILE.fullmatch, quoted(text)):
-                self.file(line, word)
+                if not STANDS_FOR.search(word):
+                    self.file(line, word)
 
     def read(self):
         columns = []
-        for line, row in enumerate(self.text(TRACE).splitlines(), 1):
+        for line, row in enumerate((self.text(TRACE) or "").splitlines(), 1):
             if not row.startswith("|"):
                 columns = []
                 continue
