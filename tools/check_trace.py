@@ -3,12 +3,11 @@
     python3 tools/check_trace.py              files and names
     python3 tools/check_trace.py DOCUMENT     also each sentence of the trace, word for word, and that none of the document is left out
 
-In a cell of the trace's tables and in a list's item of the claims, what stands in backticks is a file (it has a slash and a suffix) or a name, which
-belongs to the file before it in that cell or item. Of the architecture only files are looked at, but for those with a word such as NAME in
-their path. Files are below crates/ or else below the
-repository's root. In the trace's column of vectors a name without a file is a model of reference/tests/data/models.txt or papers.txt, and one letter
-is one of document 01's models A to L, as the list in crates/tree/specs/Marked.antt has it. A cell that holds only a dash is empty. Ends with 0 if
-nothing is wrong, else with 1.
+In a cell of the trace's tables and in an item of the claims that begins "Says so" or "Would show it false", what stands in backticks is a file (it has
+a slash and a suffix) or a name, which belongs to the file before it in that cell or item. Of all else in the claims and the architecture only files are
+looked at, but for those with a word such as NAME in their path. Files are below crates/ or else below the repository's root. In the trace's column of
+vectors a name without a file is a model of reference/tests/data/models.txt or papers.txt, and one letter is one of document 01's models A to L, as
+the list in crates/tree/specs/Marked.antt has it. A cell that holds only a dash is empty. Ends with 0 if nothing is wrong, else with 1.
 """
 import re
 import sys
@@ -53,6 +52,11 @@ class Trace:
             self.texts[path] = place.read_text(encoding="utf-8") if place else None
         return self.texts[path]
 
+    def lines(self, document):
+        if self.text(document) is None:
+            self.fail(0, "there is no such document")
+        return (self.text(document) or "").splitlines()
+
     def fail(self, line, words):
         self.wrong.append(f"{self.document}:{line}: {words}")
 
@@ -94,29 +98,31 @@ class Trace:
                 self.fail(line, f"{item} has no file before it")
 
     def claims(self):
-        """The items that begin by a dash, each with the lines that are indented below it, and the files of the other lines."""
+        """Files and names of the items that tell what shows a claim, each with the lines indented below it; files of the other lines."""
         self.document = CLAIMS
-        item = False
-        for line, text in enumerate((self.text(CLAIMS) or "").splitlines(), 1):
-            item = text.startswith("- Says so:") or text.startswith("- Would show it false:") or item and text.startswith("  ")
-            path = path if item and text.startswith("  ") else None
+        item, path = False, None
+        for line, text in enumerate(self.lines(CLAIMS), 1):
+            if not (item and text.startswith("  ")):
+                item, path = text.startswith(("- Says so:", "- Would show it false:")), None
             for word in quoted(text):
                 if FILE.fullmatch(word):
                     path = word
                     self.file(line, path)
+                elif item and path:
+                    self.name(line, path, word)
                 elif item:
-                    self.name(line, path, word) if path else self.fail(line, f"{word} has no file before it")
+                    self.fail(line, f"{word} has no file before it")
 
     def architecture(self):
         self.document = ARCHITECTURE
-        for line, text in enumerate((self.text(ARCHITECTURE) or "").splitlines(), 1):
+        for line, text in enumerate(self.lines(ARCHITECTURE), 1):
             for word in filter(FILE.fullmatch, quoted(text)):
                 if not STANDS_FOR.search(word):
                     self.file(line, word)
 
     def read(self):
         columns = []
-        for line, row in enumerate((self.text(TRACE) or "").splitlines(), 1):
+        for line, row in enumerate(self.lines(TRACE), 1):
             if not row.startswith("|"):
                 columns = []
                 continue
