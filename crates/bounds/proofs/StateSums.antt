@@ -14,13 +14,13 @@ use Rattle.figure.specs.Operations.{times-up, times-down, plus-up, plus-down}
 use Rattle.figure.specs.Operands.{Sized}
 use Rattle.figure.proofs.Sized.{sized-≤}
 use Rattle.model.specs.Model.{Manner, slow, fast, Transition, Net, exits}
-use Rattle.model.specs.Index.{no-transition}
+use Rattle.model.specs.Index.{transition-at, no-transition}
 use Rattle.model.proofs.Valid.{ValidManner}
 use Rattle.tree.specs.States.{second-moment, sum-over, add-rate, add-mean-up, add-mean-down, add-moment, rate-sum, mean-up, mean-down, moment-sum}
 use Rattle.tree.proofs.Ranges.{none-sized, add-rate-sized, add-mean-up-sized, add-mean-down-sized, add-moment-sized}
 use Rattle.bounds.specs.declared.states.Sums.{Sums}
 use Rattle.bounds.specs.Tables.{SumsSized, add-exit, sums}
-use Rattle.bounds.proofs.Firsts.{FastRead, SlowRead}
+use Rattle.bounds.proofs.Firsts.{Placed, part-at, placed-manner, FastRead, SlowRead}
 
 -- ---- one exit more
 
@@ -74,12 +74,12 @@ module _ (net : Net) (s : ℕ) where
   })
 
   module _ {i : ℕ} {r : Sums} (h : SummedTo net s i r) where
-    pub summed-more : {r′ : Sums} (x : Manner) → i < length (exits net s) → x ≡ (getD (exits net s) i no-transition) .manner → ValidManner x
-        → r′ ≡ add-exit r x → SummedTo net s (i + 1) r′
+    pub summed-more : {ws : List ℕ} {place : ℕ} {r′ : Sums} → i < length (exits net s) → Placed ws (getD (exits net s) i no-transition) place
+        → r′ ≡ add-exit r ((transition-at (part-at ws place)) .manner) → SummedTo net s (i + 1) r′
     unfolding sum-over
-    summed-more x more is valid e = rw e (record {
-      rest = rw (is, add-one i) (rw (drop-cons (exits net s) i no-transition more) at (h .rest));
-      sized = sums-≤ (omega arith) (add-exit-sized x (omega arith) valid (h .sized));
+    summed-more more p e = rw (e, placed-manner p) (record {
+      rest = rw (add-one i) (rw (drop-cons (exits net s) i no-transition more) at (h .rest));
+      sized = sums-≤ (omega arith) (add-exit-sized ((getD (exits net s) i no-transition) .manner) (omega arith) (p .valid) (h .sized));
     })
 
     pub summed-all : length (exits net s) ≤ i → r ≡ sums net s
