@@ -1,9 +1,9 @@
 -- A part of the words that begins at a transition: what its words are, and the figures that are read from them. Assumes nothing.
-use Prim.Native.Nat.{ℕ, _+_, _-_, _≤_, _<_}
-use mathlib.Core.Path.{_≡_, refl, sym, ap, _∙_}
-use mathlib.Core.Bool.{Bool, true, false}
+use Prim.Native.Nat.{ℕ, _+_, _-_, _<_}
+use mathlib.Core.Path.{_≡_, ap, _∙_}
+use mathlib.Core.Bool.{true, false}
 use mathlib.Core.List.{List}
-use native.Mathlib.Nat.{add-zero, le-trans}
+use native.Mathlib.Nat.{add-zero}
 use native.Mathlib.Omega.{arith}
 use lib.Dec.{eqb, lit≤}
 use lib.ListN.{length, getD, take, drop, length-drop}
@@ -15,7 +15,7 @@ use Rattle.figure.proofs.Sized.{sized-≤}
 use Rattle.model.specs.declared.Quantity.{Quantity}
 use Rattle.model.specs.Model.{Manner, slow, fast, Transition, is-fast}
 use Rattle.model.specs.Words.{kind, coefficient-field, quantity}
-use Rattle.model.specs.Index.{transition-at, word-count, Stands}
+use Rattle.model.specs.Index.{transition-at, Stands}
 use Rattle.model.proofs.Valid.{InRange, ValidManner}
 use Rattle.model.proofs.Steps.{part-from}
 use Rattle.model.proofs.Slots.{fast-at, slow-at, stands-inside, stands-inside-fast, stands-fast, stands-slow-manner}
@@ -31,7 +31,7 @@ part-at ws place = take (length ws - place) (drop place ws)
 abbrev pub word-from : List ℕ → ℕ → ℕ
 word-from part k = getD (part-at part k) 0 0
 
-pub word-is : (part : List ℕ) (k : ℕ) → word-from part k ≡ getD part k 0
+word-is : (part : List ℕ) (k : ℕ) → word-from part k ≡ getD part k 0
 word-is part k = ap (λ (l : List ℕ). getD l 0 0) (part-from part k) ∙ getD-drop k part 0 0 ∙ ap (λ (i : ℕ). getD part i 0) (add-zero k)
 
 -- a valid transition that stands at a place

@@ -1,14 +1,13 @@
 -- What class 2 takes off 1 and class 3 off h': every figure on the way is in range, and no divisor is 0. Assumes nothing.
-use Prim.Native.Nat.{ℕ, suc, _+_, _*_, _^_, _≤_, _<_, max}
-use mathlib.Core.Path.{_≡_, refl, _∙_}
-use native.Mathlib.Nat.{le-trans, mul-le-mul, mul-pos}
+use Prim.Native.Nat.{ℕ, _*_, _≤_, _<_}
+use mathlib.Core.Path.{_≡_}
+use native.Mathlib.Nat.{mul-le-mul, mul-pos}
 use native.Mathlib.Omega.{arith}
-use lib.Dec.{lit≤}
-use lib.IntN.{ℤ, pos}
+use lib.IntN.{pos}
 use mir.Syntax.{w64}
 use mir.Val.{Fits}
 use Rattle.figure.specs.declared.Figure.{Figure}
-use Rattle.figure.specs.Operations.{times-up, times-down, plus-up, divided-up, times-ten, of-whole}
+use Rattle.figure.specs.Operations.{times-down, divided-up, times-ten, of-whole}
 use Rattle.figure.specs.Operands.{Sized, Operand}
 use Rattle.figure.proofs.Sized.{sized-≤, times-down-sized, divided-up-sized, times-ten-sized}
 use Rattle.tree.proofs.Positive.{times-down-above, of-whole-above}

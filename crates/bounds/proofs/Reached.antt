@@ -3,8 +3,8 @@ use Prim.Native.Nat.{ℕ, _+_, _*_, _≤_, _<_}
 use mathlib.Core.Path.{_≡_, ap, _∙_}
 use mathlib.Core.List.{List}
 use lib.ListN.{length, getD}
-use Rattle.model.specs.Model.{Transition, exits}
-use Rattle.model.specs.Index.{Stands, no-transition, transition}
+use Rattle.model.specs.Model.{exits}
+use Rattle.model.specs.Index.{no-transition, transition}
 use Rattle.model.proofs.Slots.{counts-few, slot-small, slot-below, slot-stands, slot-exit, transition-valid}
 use Rattle.bounds.specs.Tables.{Indexes, described, net-of}
 use Rattle.bounds.proofs.Firsts.{Placed}

@@ -1,19 +1,16 @@
 -- E, h, h' and H of a state: exit by exit, in one pass, and the tables of all states. Assumes nothing.
-use Prim.Native.Nat.{ℕ, zero, suc, _+_, _*_, _-_, _≤_, _<_}
-use mathlib.Core.Path.{_≡_, refl, sym, ap, _∙_}
+use Prim.Native.Nat.{ℕ, _+_, _*_, _≤_, _<_}
+use mathlib.Core.Path.{_≡_, refl}
 use mathlib.Core.List.{List, [], _∷_}
-use native.Mathlib.Nat.{le-refl, le-trans}
 use native.Mathlib.Numerals.{add-one}
 use native.Mathlib.Omega.{arith}
-use lib.Dec.{lit≤}
 use lib.ListN.{length, getD, drop, drop-of-length-le}
 use lib.Seq.{drop-cons}
 use Rattle.figure.specs.declared.Figure.{Figure}
 use Rattle.figure.specs.Rounding.{none}
 use Rattle.figure.specs.Operations.{times-up, times-down, plus-up, plus-down}
-use Rattle.figure.specs.Operands.{Sized}
 use Rattle.figure.proofs.Sized.{sized-≤}
-use Rattle.model.specs.Model.{Manner, slow, fast, Transition, Net, exits}
+use Rattle.model.specs.Model.{Manner, Transition, Net, exits}
 use Rattle.model.specs.Index.{transition-at, no-transition}
 use Rattle.model.proofs.Valid.{ValidManner}
 use Rattle.tree.specs.States.{second-moment, sum-over, add-rate, add-mean-up, add-mean-down, add-moment, rate-sum, mean-up, mean-down, moment-sum}
@@ -37,7 +34,7 @@ module _ (s : Sums) {x : Manner} where
   unfolding add-exit
   with-slow f e = rw (f .manner, e, f .rate-is)
 
-pub add-exit-sized : {n : ℕ} {s : Sums} (x : Manner) → 180 ≤ n → ValidManner x → SumsSized n s → SumsSized (n + 20) (add-exit s x)
+add-exit-sized : {n : ℕ} {s : Sums} (x : Manner) → 180 ≤ n → ValidManner x → SumsSized n s → SumsSized (n + 20) (add-exit s x)
 unfolding add-exit
 add-exit-sized {n} {s} x few w h = record {
   rate = add-rate-sized n (s .rate) x few w (h .rate);
@@ -55,7 +52,12 @@ abbrev pub no-sums : Sums
 no-sums = record { rate = none; mean = none; floor = none; moment = none }
 
 one-pass : (a : Sums) (ts : List Transition)
-    → sum-over add-exit a ts ≡ record { rate = sum-over add-rate (a .rate) ts; mean = sum-over add-mean-up (a .mean) ts; floor = sum-over add-mean-down (a .floor) ts; moment = sum-over add-moment (a .moment) ts }
+    → sum-over add-exit a ts ≡ record {
+      rate = sum-over add-rate (a .rate) ts;
+      mean = sum-over add-mean-up (a .mean) ts;
+      floor = sum-over add-mean-down (a .floor) ts;
+      moment = sum-over add-moment (a .moment) ts;
+    }
 unfolding sum-over add-exit
 one-pass a [] = refl
 one-pass a (t ∷ ts) = one-pass (add-exit a (t .manner)) ts
@@ -66,7 +68,8 @@ pub record SummedTo (net : Net) (s i : ℕ) (r : Sums) : Type 0 where
   pub sized : SumsSized (180 + 20 * i) r
 
 module _ (net : Net) (s : ℕ) where
-  pub summed-none : {a b c d : Figure} → a ≡ none → b ≡ none → c ≡ none → d ≡ none → SummedTo net s 0 (record { rate = a; mean = b; floor = c; moment = d })
+  pub summed-none : {a b c d : Figure} → a ≡ none → b ≡ none → c ≡ none → d ≡ none
+      → SummedTo net s 0 (record { rate = a; mean = b; floor = c; moment = d })
   unfolding sums rate-sum mean-up mean-down moment-sum
   summed-none ea eb ec ed = rw (ea, eb, ec, ed) (record {
     rest = one-pass no-sums (exits net s);

@@ -1,5 +1,5 @@
 -- From the index of a transition to its place and to what the tables hold of the state that it leaves. Assumes nothing.
-use Prim.Native.Nat.{ℕ, _+_, _≤_, _<_}
+use Prim.Native.Nat.{ℕ, _+_, _<_}
 use mathlib.Core.Path.{_≡_, refl, sym, ap, _∙_}
 use mathlib.Core.Bool.{Bool, true, false}
 use mathlib.Core.List.{List}
@@ -11,7 +11,7 @@ use Rattle.figure.specs.Rounding.{none}
 use Rattle.figure.specs.Operands.{Sized}
 use Rattle.model.specs.Model.{Transition, exits, has-fast}
 use Rattle.model.specs.Words.{kind, from-field, quantity}
-use Rattle.model.specs.Index.{transition-at, Stands, no-transition, transition}
+use Rattle.model.specs.Index.{transition-at, no-transition, transition}
 use Rattle.model.proofs.Valid.{ValidTransition}
 use Rattle.model.proofs.Members.{each-lookup}
 use Rattle.model.proofs.Slots.{stands-from}

@@ -1,6 +1,5 @@
 -- `steps::step_at` meets its contract: the step of the transition's class, from its words and from the tables' entries of the state that it
 -- leaves. Assumes nothing.
-use Prim.Native.Nat.{_+_}
 use mathlib.Core.Path.{_≡_, sym, ap, _∙_}
 use mathlib.Core.Bool.{true, false}
 use native.Mathlib.Nat.{pos-of-ne-zero}
