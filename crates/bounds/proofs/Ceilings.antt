@@ -2,11 +2,11 @@
 use mathlib.Core.Path.{_≡_, refl, sym, _∙_, ap, ap₂}
 use mathlib.Core.Bool.{Bool, true, false, false≢true}
 use Prim.Native.Nat.{ℕ, zero, suc, _+_, _-_, _*_, _/_, _^_, _≤_, _<_}
-use native.Mathlib.Nat.{le-refl, le-trans, not-suc-le-zero, lt-irrefl, lt-of-not-le, not-le-of-lt, mul-le-mul, zero-lt-suc}
+use native.Mathlib.Nat.{le-refl, le-trans, not-suc-le-zero, lt-irrefl, lt-of-not-le, not-le-of-lt, mul-le-mul}
 use native.Mathlib.Omega.{arith}
-use lib.Dec.{T, leb, lit≤, lit<}
+use lib.Dec.{T, leb, lit≤}
 use lib.IntN.{ℤ, pos, negsuc, negℤ, natAbs, _-ℤ_}
-use lib.Signed.{mag, leZ, ltZ, nonNeg, _≤ℤ_}
+use lib.Signed.{mag, leZ, ltZ, nonNeg}
 use mir.Syntax.{w32, w64}
 use mir.Val.{SFits, Fits}
 use mir.Facts.{toZ-ofZ, fits-natAbs}
@@ -26,7 +26,7 @@ use Rattle.bounds.specs.Roots.{Ceiling}
 
 -- ---- two tests that say the same
 
-pub same-test : (a b c d : ℕ) → (a ≤ b → c ≤ d) → (c ≤ d → a ≤ b) → leb a b ≡ leb c d
+same-test : (a b c d : ℕ) → (a ≤ b → c ≤ d) → (c ≤ d → a ≤ b) → leb a b ≡ leb c d
 same-test a b c d there back = go (leb a b) (leb-true a b) (leb-false a b)
   where
     go : (t : Bool) → (t ≡ true → a ≤ b) → (t ≡ false → b < a) → t ≡ leb c d
@@ -73,7 +73,9 @@ module _ (g : Figure) (i : IsFigure 9 g) (fits : SFits w32 (g .power)) where
     where
       go : (p : ℤ) → g .power ≡ p → ltZ (pos 9) p ≡ true → Ceiling g 1000000000000000000
       go (negsuc k) e t = absurd (false≢true t)
-      go (pos k) e t = record { same = λ n small. above g k e n ∙ lt-leb (g .digits * 10 ^ k) n (le-trans small far) ∙ sym (lt-leb 1000000000000000000 n small) }
+      go (pos k) e t = record {
+        same = λ n small. above g k e n ∙ lt-leb (g .digits * 10 ^ k) n (le-trans small far) ∙ sym (lt-leb 1000000000000000000 n small);
+      }
         where
           nonzero : g .power ≡ pos 0 → ⊥
           nonzero z = lt-irrefl 0 (omega (arith, ap mag (sym e ∙ z), ltb-true 9 k t))
@@ -100,14 +102,20 @@ module _ (g : Figure) (i : IsFigure 9 g) (fits : SFits w32 (g .power)) where
     whole-below = rw whole-index (whole-power .1 .1)
 
     module _ (t : ℕ) (is : t ≡ 10 ^ natAbs (stored (g .power))) where
+      whole-ten : t ≡ 10 ^ whole-power .0
+      whole-ten = is ∙ ap (λ n. 10 ^ n) whole-index
+
       pub whole-fits : Fits w64 (g .digits * t)
       whole-fits = omega (arith, product)
         where
           product : g .digits * t ≤ 1000000000 * 1000000000
-          product = mul-le-mul {n₂ = 1000000000} {m₂ = 1000000000} (omega (arith, digits-high i)) (rw (is ∙ ap (λ n. 10 ^ n) whole-index) (pow-mono {i = whole-power .0} {j = 9} (omega (arith, whole-power .1 .1))))
+          product = mul-le-mul {n₂ = 1000000000} {m₂ = 1000000000} (omega (arith, digits-high i))
+              (rw whole-ten (pow-mono {i = whole-power .0} {j = 9} (omega (arith, whole-power .1 .1))))
 
       pub ceiling-whole : Ceiling g (g .digits * t)
-      ceiling-whole = record { same = λ n small. above g (whole-power .0) (whole-power .1 .0) n ∙ ap (λ m. leb (g .digits * m) n) (sym (is ∙ ap (λ n. 10 ^ n) whole-index)) }
+      ceiling-whole = record {
+        same = λ n small. above g (whole-power .0) (whole-power .1 .0) n ∙ ap (λ m. leb (g .digits * m) n) (sym whole-ten);
+      }
 
   -- below -9: between 0 and 1
   pub ceiling-low : ltZ (stored (g .power)) (negsuc 8) ≡ true → Ceiling g 1
@@ -155,21 +163,24 @@ module _ (g : Figure) (i : IsFigure 9 g) (fits : SFits w32 (g .power)) where
     part-below = rw part-index (omega (arith, part-power .1 .1))
 
     module _ (t : ℕ) (is : t ≡ 10 ^ natAbs (stored (pos 0 -ℤ stored (g .power)))) where
-      ten-is : t ≡ 10 ^ suc (part-power .0)
-      ten-is = is ∙ ap (λ n. 10 ^ n) part-index
+      part-ten : t ≡ 10 ^ suc (part-power .0)
+      part-ten = is ∙ ap (λ n. 10 ^ n) part-index
 
       pub part-pos : 0 < t
-      part-pos = rw ten-is (pow-pos (suc (part-power .0)))
+      part-pos = rw part-ten (pow-pos (suc (part-power .0)))
 
       pub part-fits : Fits w64 (g .digits + (t - 1))
       part-fits = omega (arith, digits-high i, most)
         where
           most : t ≤ 1000000000
-          most = rw ten-is (pow-mono {i = suc (part-power .0)} {j = 9} (omega (arith, part-power .1 .1)))
+          most = rw part-ten (pow-mono {i = suc (part-power .0)} {j = 9} (omega (arith, part-power .1 .1)))
 
       pub ceiling-part : Ceiling g ((g .digits + (t - 1)) / t)
       unfolding ceilDiv
-      ceiling-part = record { same = λ n small. below g (suc (part-power .0)) (part-power .1 .0) n ∙ ap (λ m. leb (g .digits) (n * m)) (sym ten-is) ∙ quotient n }
+      ceiling-part = record {
+        same = λ n small.
+            below g (suc (part-power .0)) (part-power .1 .0) n ∙ ap (λ m. leb (g .digits) (n * m)) (sym part-ten) ∙ quotient n;
+      }
         where
           quotient : (n : ℕ) → leb (g .digits) (n * t) ≡ leb ((g .digits + (t - 1)) / t) n
           quotient n = same-test (g .digits) (n * t) (ceilDiv (g .digits) t) n (ceil-least (g .digits) t n part-pos)

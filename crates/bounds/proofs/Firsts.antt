@@ -1,47 +1,60 @@
 -- A part of the words that begins at a transition: what its words are, and the figures that are read from them. Assumes nothing.
-use Prim.Native.Nat.{ℕ, _+_, _-_, _≤_, _<_}
-use mathlib.Core.Path.{_≡_, refl, sym, ap, _∙_}
-use mathlib.Core.Bool.{Bool, true, false}
+use Prim.Native.Nat.{ℕ, _+_, _-_, _<_}
+use mathlib.Core.Path.{_≡_, ap, _∙_}
+use mathlib.Core.Bool.{true, false}
 use mathlib.Core.List.{List}
-use native.Mathlib.Nat.{add-zero, le-trans}
+use native.Mathlib.Nat.{add-zero}
 use native.Mathlib.Omega.{arith}
 use lib.Dec.{eqb, lit≤}
 use lib.ListN.{length, getD, take, drop, length-drop}
 use lib.Seq.{getD-drop}
-use borrow.Author.Tests.{eqb-true}
+use borrow.Author.Tests.{eqb-true, eqb-false}
 use Rattle.figure.specs.declared.Figure.{Figure}
 use Rattle.figure.specs.Operands.{Sized}
 use Rattle.figure.proofs.Sized.{sized-≤}
 use Rattle.model.specs.declared.Quantity.{Quantity}
 use Rattle.model.specs.Model.{Manner, slow, fast, Transition, is-fast}
 use Rattle.model.specs.Words.{kind, coefficient-field, quantity}
-use Rattle.model.specs.Index.{transition-at, word-count, Stands}
+use Rattle.model.specs.Index.{transition-at, Stands}
 use Rattle.model.proofs.Valid.{InRange, ValidManner}
 use Rattle.model.proofs.Steps.{part-from}
-use Rattle.model.proofs.Slots.{fast-at, slow-at, stands-inside, stands-inside-fast, stands-fast}
+use Rattle.model.proofs.Slots.{fast-at, slow-at, stands-inside, stands-inside-fast, stands-fast, stands-slow-manner}
 use Rattle.tree.specs.States.{figure-of}
 use Rattle.tree.proofs.Ranges.{quantity-sized}
 use Rattle.bounds.specs.Tables.{StandsFirst}
 
--- the first word of the part from k on
-abbrev pub word-from : List ℕ → ℕ → ℕ
-word-from part k = getD (take (length part - k) (drop k part)) 0 0
+-- the words from a place on
+abbrev pub part-at : List ℕ → ℕ → List ℕ
+part-at ws place = take (length ws - place) (drop place ws)
 
-pub word-is : (part : List ℕ) (k : ℕ) → word-from part k ≡ getD part k 0
+-- the first of them
+abbrev pub word-from : List ℕ → ℕ → ℕ
+word-from part k = getD (part-at part k) 0 0
+
+word-is : (part : List ℕ) (k : ℕ) → word-from part k ≡ getD part k 0
 word-is part k = ap (λ (l : List ℕ). getD l 0 0) (part-from part k) ∙ getD-drop k part 0 0 ∙ ap (λ (i : ℕ). getD part i 0) (add-zero k)
 
--- a transition that stands at a place is the first of the part from there on
-pub stands-first : {ws : List ℕ} {place : ℕ} {t : Transition} → Stands ws place t → ValidManner (t .manner)
-    → StandsFirst (take (length ws - place) (drop place ws))
-stands-first {ws} {place} {t} stands valid = rw (part-from ws place) (record {
-  transition = t;
-  stands = record { inside = omega (arith, stands .inside, length-drop place ws); reads = stands .reads };
-  valid = valid;
-})
+-- a valid transition that stands at a place
+pub record Placed (ws : List ℕ) (t : Transition) (place : ℕ) : Type 0 where
+  pub stands : Stands ws place t
+  pub valid : ValidManner (t .manner)
 
-pub part-manner : {ws : List ℕ} {place : ℕ} {t : Transition} → Stands ws place t
-    → (transition-at (take (length ws - place) (drop place ws))) .manner ≡ t .manner
-part-manner {ws} {place} stands = rw (part-from ws place) (ap (λ (u : Transition). u .manner) (stands .reads))
+module _ {ws : List ℕ} {t : Transition} {place : ℕ} (p : Placed ws t place) where
+  pub placed-inside : place + 1 < length ws
+  placed-inside = stands-inside (p .stands)
+
+  pub placed-first : StandsFirst (part-at ws place)
+  placed-first = rw (part-from ws place) (record {
+    transition = t;
+    stands = record { inside = omega (arith, p .stands .inside, length-drop place ws); reads = p .stands .reads };
+    valid = p .valid;
+  })
+
+  pub placed-manner : (transition-at (part-at ws place)) .manner ≡ t .manner
+  placed-manner = rw (part-from ws place) (ap (λ (u : Transition). u .manner) (p .stands .reads))
+
+  pub placed-fast : is-fast (t .manner) ≡ eqb (kind (getD ws place 0)) 7
+  placed-fast = stands-fast (p .stands)
 
 -- the figures of a fast exit: mean, deviation and probability
 pub record FastRead (x : Manner) (m d q : Figure) : Type 0 where
@@ -119,6 +132,27 @@ module _ {part : List ℕ} (first : StandsFirst part) where
 
     pub slow-read : {r : Figure} → r ≡ figure-of (quantity (word-from part 1)) → SlowRead ((transition-at part) .manner) r
     slow-read a = record { rate = quantity (getD part 1 0); manner = slow-at part test; valid = slow-valid; rate-is = rw (word-is part 1) at a }
+
+-- ---- a slow one's rate from the word behind its place
+
+module _ {ws : List ℕ} {t : Transition} {place : ℕ} (p : Placed ws t place) (test : eqb (kind (getD ws place 0)) 7 ≡ false) where
+  behind-is : t .manner ≡ slow (quantity (getD ws (place + 1) 0))
+  behind-is = stands-slow-manner (p .stands) (eqb-false (kind (getD ws place 0)) 7 test)
+
+  behind-valid : InRange 1 20 (quantity (getD ws (place + 1) 0))
+  unfolding ValidManner
+  behind-valid = rw behind-is at (p .valid)
+
+  pub behind-low : coefficient-field (word-from ws (place + 1)) < 1000000
+  behind-low = rw (word-is ws (place + 1)) (low-coefficient (getD ws (place + 1) 0) behind-valid)
+
+  pub behind-read : {r : Figure} → r ≡ figure-of (quantity (word-from ws (place + 1))) → SlowRead (t .manner) r
+  behind-read e = record {
+    rate = quantity (getD ws (place + 1) 0);
+    manner = behind-is;
+    valid = behind-valid;
+    rate-is = rw (word-is ws (place + 1)) at e;
+  }
 
 -- ---- they are in range
 

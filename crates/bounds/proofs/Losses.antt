@@ -1,14 +1,13 @@
 -- What class 2 takes off 1 and class 3 off h': every figure on the way is in range, and no divisor is 0. Assumes nothing.
-use Prim.Native.Nat.{ℕ, suc, _+_, _*_, _^_, _≤_, _<_, max}
-use mathlib.Core.Path.{_≡_, refl, _∙_}
-use native.Mathlib.Nat.{le-trans, mul-le-mul, mul-pos}
+use Prim.Native.Nat.{ℕ, _*_, _≤_, _<_}
+use mathlib.Core.Path.{_≡_}
+use native.Mathlib.Nat.{mul-le-mul, mul-pos}
 use native.Mathlib.Omega.{arith}
-use lib.Dec.{lit≤}
-use lib.IntN.{ℤ, pos}
+use lib.IntN.{pos}
 use mir.Syntax.{w64}
 use mir.Val.{Fits}
 use Rattle.figure.specs.declared.Figure.{Figure}
-use Rattle.figure.specs.Operations.{times-up, times-down, plus-up, divided-up, times-ten, of-whole}
+use Rattle.figure.specs.Operations.{times-down, divided-up, times-ten, of-whole}
 use Rattle.figure.specs.Operands.{Sized, Operand}
 use Rattle.figure.proofs.Sized.{sized-≤, times-down-sized, divided-up-sized, times-ten-sized}
 use Rattle.tree.proofs.Positive.{times-down-above, of-whole-above}
@@ -26,26 +25,30 @@ module _ {n : ℕ} (low : 1 ≤ n) (high : n ≤ 1000000) where
   pub grains-square-fits : Fits w64 (n * n)
   grains-square-fits = omega (arith, square-high)
 
--- ---- M or H over a whole number times T2 or T
+-- ---- M or H over a whole number k times T2 or T: w is k, b the divisor and q the quotient
 
-module _ {moment time w : Figure} {k : ℕ} (mo : Sized 9 2000 moment) (ti : Sized 9 2000 time) (z : 0 < time .digits) (low : 1 ≤ k)
-    (high : k ≤ 1000000000000) (is : w ≡ of-whole k) where
+pub record Over (moment time : Figure) (k : ℕ) (w : Figure) : Type 0 where
+  pub moment-sized : Sized 9 2000 moment
+  pub time-sized : Sized 9 2000 time
+  pub time-above : 0 < time .digits
+  pub low : 1 ≤ k
+  pub high : k ≤ 1000000000000
+  pub is : w ≡ of-whole k
+
+module _ {moment time w : Figure} {k : ℕ} (o : Over moment time k w) where
   pub whole-sized : Sized 9 20 w
-  whole-sized = rw is (count-sized k high)
+  whole-sized = rw (o .is) (count-sized k (o .high))
 
   module _ {b : Figure} (product : b ≡ times-down w time) where
     pub divisor-sized : Sized 9 2040 b
-    divisor-sized = rw product (sized-≤ (lit≤ tt) (times-down-sized whole-sized ti))
+    divisor-sized = rw product (times-down-sized whole-sized (o .time-sized))
 
     pub divisor-above : 0 < b .digits
-    divisor-above = rw (product, is) (times-down-above (of-whole k) time (of-whole-above k low) z)
+    divisor-above = rw (product, o .is) (times-down-above (of-whole k) time (of-whole-above k (o .low)) (o .time-above))
 
-    module _ {q : Figure} (quotient : q ≡ divided-up moment b) where
-      pub quotient-sized : Sized 9 4060 q
-      quotient-sized = rw quotient (sized-≤ (lit≤ tt) (divided-up-sized mo divisor-sized divisor-above))
+    pub quotient-sized : {q : Figure} → q ≡ divided-up moment b → Sized 9 4060 q
+    quotient-sized quotient = rw quotient (divided-up-sized (o .moment-sized) divisor-sized divisor-above)
 
-      pub shifted-12 : {r : Figure} → r ≡ times-ten q (pos 12) → Operand 9 r
-      shifted-12 e = rw e (sized-≤ (lit≤ tt) (times-ten-sized (pos 12) quotient-sized))
-
-      pub shifted-6 : {r : Figure} → r ≡ times-ten q (pos 6) → Operand 9 r
-      shifted-6 e = rw e (sized-≤ (lit≤ tt) (times-ten-sized (pos 6) quotient-sized))
+-- shifted by a power of ten
+pub shifted-sized : (n : ℕ) {q r : Figure} → n ≤ 20 → Sized 9 4060 q → r ≡ times-ten q (pos n) → Operand 9 r
+shifted-sized n few h e = rw e (sized-≤ (omega arith) (times-ten-sized (pos n) h))

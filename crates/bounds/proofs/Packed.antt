@@ -1,6 +1,6 @@
 -- A figure in 64 bits: powers are raised above 0 and set back, and what was packed is unpacked again. Assumes nothing.
-use mathlib.Core.Path.{_≡_, refl, sym, _∙_, ap, ap₂}
-use Prim.Native.Nat.{ℕ, suc, _+_, _*_, _/_, _%_, _^_, _≤_, _<_}
+use mathlib.Core.Path.{_≡_, refl, _∙_, ap, ap₂}
+use Prim.Native.Nat.{ℕ, suc, _+_, _*_, _/_, _%_, _≤_, _<_}
 use native.Mathlib.Nat.{le-trans}
 use native.Mathlib.Omega.{arith}
 use lib.Dec.{T, lit≤, le→leb}
@@ -38,7 +38,7 @@ module _ (p : ℤ) (h : mag p ≤ 100000) where
   raised-is = pos-natAbs _ (raised-cast .0) ∙ raised-kept
 
   -- it takes 21 bits
-  pub raised-below : (r : ℕ) → pos r ≡ p +ℤ pos 1048576 → r < 2097152
+  raised-below : (r : ℕ) → pos r ≡ p +ℤ pos 1048576 → r < 2097152
   raised-below r e = le-trans {m = 1148579} (omega (arith, ap mag e, mag-sum p (pos 1048576))) (lit≤ tt)
 
 -- ---- and set back
@@ -82,7 +82,10 @@ module _ (f : Figure) (h : Operand 9 f) (r : ℕ) (raised : pos r ≡ stored (f 
 
   pub packed-is : unpacked (f .digits + r * 1073741824) ≡ f
   unfolding unpacked
-  packed-is = ap₂ figure (omega (arith, digits-below)) (ap (λ (k : ℕ). pos k -ℤ pos 1048576) back ∙ ap (λ (z : ℤ). z -ℤ pos 1048576) e ∙ +ℤ-negℤ-cancel (f .power) (pos 1048576))
+  packed-is = ap₂ figure (omega (arith, digits-below)) (ap set-back back ∙ ap (λ (z : ℤ). z -ℤ pos 1048576) e ∙ +ℤ-negℤ-cancel (f .power) (pos 1048576))
     where
+      set-back : ℕ → ℤ
+      set-back k = pos k -ℤ pos 1048576
+
       back : (f .digits + r * 1073741824) / 1073741824 % 2097152 ≡ r
       back = omega (arith, raised-below (f .power) (h .near) r e, digits-below)

@@ -1,16 +1,13 @@
--- From a state and a slot to the part of the words that begins at the exit. Assumes nothing.
-use Prim.Native.Nat.{ℕ, _+_, _-_, _*_, _≤_, _<_}
-use mathlib.Core.Path.{_≡_, refl, sym, ap, _∙_}
+-- From a state and a slot to the place of the exit. Assumes nothing.
+use Prim.Native.Nat.{ℕ, _+_, _*_, _≤_, _<_}
+use mathlib.Core.Path.{_≡_, ap, _∙_}
 use mathlib.Core.List.{List}
-use native.Mathlib.Nat.{le-trans}
-use native.Mathlib.Omega.{arith}
-use lib.ListN.{length, getD, take, drop}
-use Rattle.model.specs.Model.{Transition, exits}
-use Rattle.model.specs.Index.{transition-at, Stands, no-transition, transition}
-use Rattle.model.proofs.Valid.{ValidManner}
-use Rattle.model.proofs.Slots.{counts-few, slot-small, slot-below, slot-stands, slot-exit, transition-valid, stands-inside}
-use Rattle.bounds.specs.Tables.{Indexes, StandsFirst, described, net-of}
-use Rattle.bounds.proofs.Firsts.{stands-first, part-manner}
+use lib.ListN.{length, getD}
+use Rattle.model.specs.Model.{exits}
+use Rattle.model.specs.Index.{no-transition, transition}
+use Rattle.model.proofs.Slots.{counts-few, slot-small, slot-below, slot-stands, slot-exit, transition-valid}
+use Rattle.bounds.specs.Tables.{Indexes, described, net-of}
+use Rattle.bounds.proofs.Firsts.{Placed}
 
 module _ {ws slots counts places : List ℕ} (h : Indexes ws slots counts places) {s count : ℕ} (low : s ≤ 1000) (is : count ≡ getD counts s 0) where
   pub count-is : count ≡ length (exits (net-of ws) s)
@@ -30,26 +27,13 @@ module _ {ws slots counts places : List ℕ} (h : Indexes ws slots counts places
       pub index-small : j < 4000
       index-small = rw slot (slot-small (described ws) ws slots counts places (h .valid) (h .index) s i low inside)
 
-      module _ {place : ℕ} (at-place : place ≡ getD places j 0) where
-        place-is : place ≡ getD places (getD slots (s * 16 + i) 0) 0
-        place-is = at-place ∙ ap (λ (k : ℕ). getD places k 0) slot
-
-        pub exit-stands : Stands ws place (transition (net-of ws) (getD slots (s * 16 + i) 0))
-        exit-stands = rw place-is (slot-stands (described ws) ws slots counts places (h .valid) (h .index) s i low inside)
-
-        exit-valid : ValidManner ((transition (net-of ws) (getD slots (s * 16 + i) 0)) .manner)
-        exit-valid = (transition-valid (described ws) ws slots counts places (h .valid) (h .index) (getD slots (s * 16 + i) 0)
-            (slot-below (described ws) ws slots counts places (h .valid) (h .index) s i low inside)) .manner
-
-        pub exit-inside : place + 1 < length ws
-        exit-inside = stands-inside exit-stands
-
-        pub exit-first : StandsFirst (take (length ws - place) (drop place ws))
-        exit-first = stands-first exit-stands exit-valid
-
-        pub exit-manner : (transition-at (take (length ws - place) (drop place ws))) .manner ≡ (getD (exits (net-of ws) s) i no-transition) .manner
-        exit-manner = part-manner exit-stands
-            ∙ ap (λ (t : Transition). t .manner) (slot-exit (described ws) ws slots counts places (h .valid) (h .index) s i low inside)
-
-        pub exit-manner-valid : ValidManner ((transition-at (take (length ws - place) (drop place ws))) .manner)
-        exit-manner-valid = rw (part-manner exit-stands) exit-valid
+      -- the i-th exit stands at the slot's place
+      pub exit-placed : {place : ℕ} → place ≡ getD places j 0 → Placed ws (getD (exits (net-of ws) s) i no-transition) place
+      exit-placed at-place = rw (at-place ∙ ap (λ (k : ℕ). getD places k 0) slot) (record {
+        stands = rw exit at (slot-stands (described ws) ws slots counts places (h .valid) (h .index) s i low inside);
+        valid = rw exit at ((transition-valid (described ws) ws slots counts places (h .valid) (h .index) (getD slots (s * 16 + i) 0)
+            (slot-below (described ws) ws slots counts places (h .valid) (h .index) s i low inside)) .manner);
+      })
+        where
+          exit : transition (net-of ws) (getD slots (s * 16 + i) 0) ≡ getD (exits (net-of ws) s) i no-transition
+          exit = slot-exit (described ws) ws slots counts places (h .valid) (h .index) s i low inside

@@ -1,17 +1,15 @@
 -- The search for the least number whose cube or square reaches a figure. Assumes nothing.
-use mathlib.Core.Path.{_≡_, refl, sym, _∙_, ap}
+use mathlib.Core.Path.{_≡_, sym, _∙_, ap}
 use mathlib.Core.Bool.{Bool, true, false}
-use Prim.Native.Nat.{ℕ, zero, suc, suc-le-suc, _+_, _*_, _^_, _≤_, _<_}
-use native.Mathlib.Nat.{le-of-suc-le-suc, le-antisymm, lt-of-not-le, le-trans, lt-irrefl, not-le-of-lt, mul-le-mul, pow-suc, pow-zero, pow-le-pow-left}
+use Prim.Native.Nat.{ℕ, suc, suc-le-suc, _+_, _*_, _^_, _≤_, _<_}
+use native.Mathlib.Nat.{le-of-suc-le-suc, le-antisymm, lt-of-not-le, le-trans, lt-irrefl, not-le-of-lt, pow-suc, pow-zero, pow-le-pow-left}
 use native.Mathlib.Decide.{decLe}
 use native.Mathlib.Omega.{arith}
-use lib.Dec.{T, leb, lit≤, le→leb, leb→le}
+use lib.Dec.{T, lit≤, le→leb, leb→le}
 use mir.Syntax.{w64}
 use mir.Val.{Fits}
-use Rattle.fraction.specs.Fraction.{whole, at-most}
 use Rattle.figure.specs.declared.Figure.{Figure}
-use Rattle.figure.specs.Rounding.{value}
-use Rattle.tree.specs.Grains.{Least, reaches, least}
+use Rattle.tree.specs.Grains.{reaches, least}
 use Rattle.tree.proofs.Least.{least-found}
 use Rattle.bounds.specs.Roots.{exponent, Ceiling, Below}
 

@@ -5,8 +5,7 @@ use mathlib.Core.List.{List, []}
 use native.Mathlib.Nat.{le-trans}
 use native.Mathlib.Omega.{arith}
 use lib.Dec.{lit≤}
-use lib.ListN.{length, getD, set}
-use Rattle.figure.specs.declared.Figure.{Figure}
+use lib.ListN.{length, set}
 use Rattle.figure.specs.Operands.{Sized, Operand}
 use Rattle.figure.proofs.Sized.{sized-≤}
 use Rattle.model.specs.Model.{Transition, Net, Model}

@@ -149,17 +149,9 @@ pub(crate) fn with_step(t: Totals) -> Totals
     ensures { λ r. ⌜ totals-of r ≡ running.with-step (totals-of t) ⌝ }
     ensures { λ r. ⌜ Counted r ⌝ }
 {
-    let lower = t.lower;
-    let died = t.died;
-    let cut = t.cut;
-    Totals {
-        lower,
-        died,
-        cut,
-        deaths: t.deaths,
-        cuts: t.cuts,
-        steps: t.steps + 1,
-    }
+    let mut r = t;
+    r.steps = t.steps + 1;
+    r
 }
 
 // What a death shares, from the cache where its last step is slow and the cache is known. The last step is the transition j of class `class` from

@@ -44,8 +44,11 @@ returns c = let l = c .before in let k = l .before .before in let s = k .before 
     (searched-all (s .args .cube) (s .args .g) (k .ceiling .result) (k .ceiling .ensures) (l .loop .n) (l .loop .inv) (c .if1 .taken), lit≤ tt)
 
 returns-2 : tie.Need-returns-2 Inv-loop μ-loop
-returns-2 c = let e = c .before .before in let l = e .before in let k = l .before .before in let s = k .before in
-    (searched-found (s .args .cube) (s .args .g) (k .ceiling .result) (k .ceiling .ensures) (l .loop .n) (l .loop .inv) (e .if1 .left) (rw (c .before .power .ensures) at (c .if2 .taken)), l .loop .inv .high)
+returns-2 c = let e = c .before .before in let l = e .before in let k = l .before .before in let s = k .before in (
+  searched-found (s .args .cube) (s .args .g) (k .ceiling .result) (k .ceiling .ensures) (l .loop .n) (l .loop .inv) (e .if1 .left)
+      (rw (c .before .power .ensures) at (c .if2 .taken)),
+  l .loop .inv .high,
+)
 
 pub least-spec : {M : Type 1} → statement M
 least-spec =

@@ -1,5 +1,4 @@
 -- `states::figure_at` meets its contract. Assumes nothing.
-use mathlib.Core.Path.{_∙_}
 use borrow.Author.Needs.{needs}
 use native.Mathlib.Omega.{arith}
 use Rattle.bounds.proofs.states.figure_at.Statement.{statement}

@@ -1,7 +1,6 @@
 -- `states::fill_states` meets its contract. The loop's invariant: the sums of the states below s are in the tables. Assumes nothing.
 use Prim.Native.Nat.{_+_, _-_, _≤_}
 use native.Mathlib.Omega.{arith}
-use borrow.Author.Needs.{needs}
 use Rattle.bounds.specs.Tables.{SumsSized, net-of}
 use Rattle.bounds.proofs.Filled.{StatesDone, states-none, states-more, states-all, sums-sized}
 use Rattle.bounds.proofs.states.fill_states.Statement.{statement}
@@ -71,8 +70,13 @@ loop-less : tie.Need-loop-less Inv-loop μ-loop
 loop-less c = omega arith
 
 loop-again : tie.Need-loop-again Inv-loop μ-loop
-loop-again c = let a = c .before .before .before .before .before .before .before .before in let l = a .before in
-    (omega arith, omega arith, states-more (net-of (l .before .before .before .args .words .now)) (c .before .before .before .pack .result) (c .before .before .pack2 .result) (c .before .pack3 .result) (c .pack4 .result) (state-small l) (a .sums-of .ensures) (c .before .before .before .pack .ensures) (c .before .before .pack2 .ensures) (c .before .pack3 .ensures) (c .pack4 .ensures) (l .before .loop .inv .2))
+loop-again c =
+    let c3 = c .before in let c2 = c3 .before in let c1 = c2 .before in let a = c1 .before .before .before .before .before in let l = a .before in (
+      omega arith,
+      omega arith,
+      states-more (net-of (l .before .before .before .args .words .now)) (c1 .pack .result) (c2 .pack2 .result) (c3 .pack3 .result) (c .pack4 .result) (state-small l)
+          (a .sums-of .ensures) (c1 .pack .ensures) (c2 .pack2 .ensures) (c3 .pack3 .ensures) (c .pack4 .ensures) (l .before .loop .inv .2),
+    )
 
 returns : tie.Need-returns Inv-loop μ-loop
 returns c = states-all (net-of (c .before .before .before .args .words .now)) (c .loop-test .left) (c .before .loop .inv .2)

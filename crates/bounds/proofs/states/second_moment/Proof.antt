@@ -12,8 +12,10 @@ times-up-requires-2 : tie.Need-times-up-requires-2
 times-up-requires-2 c κs = search needs
 
 plus-up-requires : tie.Need-plus-up-requires
-plus-up-requires c κs = let s = c .before .before in
-    (rw (c .before .times-up .ensures) (sized-≤ (lit≤ tt) (times-up-sized (s .pre .0) (s .pre .0))), rw (c .times-up2 .ensures) (sized-≤ (lit≤ tt) (times-up-sized (s .pre .1) (s .pre .1))))
+plus-up-requires c κs = let s = c .before .before in (
+  rw (c .before .times-up .ensures) (sized-≤ (lit≤ tt) (times-up-sized (s .pre .0) (s .pre .0))),
+  rw (c .times-up2 .ensures) (sized-≤ (lit≤ tt) (times-up-sized (s .pre .1) (s .pre .1))),
+)
 
 returns : tie.Need-returns
 returns c = rw (c .plus-up .ensures, c .before .before .times-up .ensures, c .before .times-up2 .ensures)

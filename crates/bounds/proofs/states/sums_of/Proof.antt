@@ -1,11 +1,14 @@
 -- `states::sums_of` meets its contract. The loop's invariant: the sums so far and the exits still to come make the state's sums. Assumes
 -- nothing.
-use Prim.Native.Nat.{_-_, _≤_, _<_}
-use mathlib.Core.Path.{_≡_}
+use Prim.Native.Nat.{_-_, _≤_}
 use native.Mathlib.Omega.{arith}
 use borrow.Author.Needs.{needs}
+use lib.ListN.{getD}
+use Rattle.model.specs.Model.{exits}
+use Rattle.model.specs.Index.{no-transition}
 use Rattle.bounds.specs.Tables.{net-of}
-use Rattle.bounds.proofs.Reached.{count-is, count-few, exit-more, index-small, exit-inside, exit-first, exit-manner, exit-manner-valid}
+use Rattle.bounds.proofs.Firsts.{Placed, placed-inside, placed-first}
+use Rattle.bounds.proofs.Reached.{count-is, count-few, exit-more, index-small, exit-placed}
 use Rattle.bounds.proofs.StateSums.{SummedTo, summed-none, summed-more, summed-all, summed-sized}
 use Rattle.bounds.proofs.states.sums_of.Statement.{statement}
 use Rattle.bounds.proofs.states.sums_of.Tie as tie
@@ -15,6 +18,19 @@ Inv-loop words slots counts places s r₀ count i₀ r i = (i ≤ count) × Summ
 
 abbrev μ-loop : tie.MeasureT-loop
 μ-loop words slots counts places s r₀ count i₀ r i = count - i
+
+abbrev start : tie.After-small Inv-loop μ-loop → tie.Start Inv-loop μ-loop
+start c = c .before .before .before .before .before .before .before
+
+few : (c : tie.After-small Inv-loop μ-loop) → c .small .result ≤ 16
+few c = let s = start c in count-few (s .pre .0) (s .pre .1) (c .small .ensures .0)
+
+-- in a turn: the exit's place
+placed : (c : tie.After-wide2 Inv-loop μ-loop) → let l = c .before .before .before .before in let s = start (l .before .before) in
+    Placed (s .args .words .now) (getD (exits (net-of (s .args .words .now)) (s .args .s)) (l .before .loop .i) no-transition) (c .wide2 .result)
+placed c = let l = c .before .before .before .before in let s = start (l .before .before) in
+    exit-placed (s .pre .0) (s .pre .1) (l .before .before .small .ensures .0) (l .loop-test .taken) (c .before .before .wide .ensures .0)
+    (c .wide2 .ensures .0)
 
 zero-requires : tie.Need-zero-requires Inv-loop μ-loop
 zero-requires c κs = search needs
@@ -35,20 +51,23 @@ small-requires : tie.Need-small-requires Inv-loop μ-loop
 small-requires c κs = search needs
 
 loop-holds : tie.Need-loop-holds Inv-loop μ-loop
-loop-holds c = let s = c .before .before .before .before .before .before .before in
-    (omega arith, summed-none (net-of (s .args .words .now)) (s .args .s) (c .before .before .before .before .before .zero .ensures) (c .before .before .before .before .zero2 .ensures) (c .before .before .before .zero3 .ensures) (c .before .before .zero4 .ensures))
+loop-holds c = let s = start c in let z = c .before .before .before .before in (
+  omega arith,
+  summed-none (net-of (s .args .words .now)) (s .args .s) (z .before .zero .ensures) (z .zero2 .ensures) (c .before .before .before .zero3 .ensures)
+      (c .before .before .zero4 .ensures),
+)
 
 mul-wide : tie.Need-mul-wide Inv-loop μ-loop
-mul-wide c = omega (arith, c .before .before .before .before .before .before .before .before .before .pre .1)
+mul-wide c = omega (arith, start (c .before .before) .pre .1)
 
 add-wide : tie.Need-add-wide Inv-loop μ-loop
-add-wide c = omega (arith, c .before .before .before .before .before .before .before .before .before .pre .1, count-few (c .before .before .before .before .before .before .before .before .before .pre .0) (c .before .before .before .before .before .before .before .before .before .pre .1) (c .before .before .small .ensures .0))
+add-wide c = omega (arith, start (c .before .before) .pre .1, few (c .before .before))
 
 mul-wide-2 : tie.Need-mul-wide-2 Inv-loop μ-loop
-mul-wide-2 c = omega (arith, c .before .before .before .before .before .before .before .before .before .pre .1, count-few (c .before .before .before .before .before .before .before .before .before .pre .0) (c .before .before .before .before .before .before .before .before .before .pre .1) (c .before .before .small .ensures .0))
+mul-wide-2 c = omega (arith, start (c .before .before) .pre .1, few (c .before .before))
 
 element-copy-out-wide : tie.Need-element-copy-out-wide Inv-loop μ-loop
-element-copy-out-wide c = omega (arith, c .before .before .before .before .before .before .before .before .before .pre .1, count-few (c .before .before .before .before .before .before .before .before .before .pre .0) (c .before .before .before .before .before .before .before .before .before .pre .1) (c .before .before .small .ensures .0))
+element-copy-out-wide c = omega (arith, start (c .before .before) .pre .1, few (c .before .before))
 
 wide-requires : tie.Need-wide-requires Inv-loop μ-loop
 wide-requires c κs = search needs
@@ -57,7 +76,8 @@ mul-wide-3 : tie.Need-mul-wide-3 Inv-loop μ-loop
 mul-wide-3 c = omega (arith, c .wide .ensures .1)
 
 element-copy-out-wide-2 : tie.Need-element-copy-out-wide-2 Inv-loop μ-loop
-element-copy-out-wide-2 c = let l = c .before .before in index-small (l .before .before .before .before .before .before .before .before .before .pre .0) (l .before .before .before .before .before .before .before .before .before .pre .1) (l .before .before .small .ensures .0) (l .loop-test .taken) (c .wide .ensures .0)
+element-copy-out-wide-2 c = let l = c .before .before in let s = start (l .before .before) in
+    index-small (s .pre .0) (s .pre .1) (l .before .before .small .ensures .0) (l .loop-test .taken) (c .wide .ensures .0)
 
 wide-requires-2 : tie.Need-wide-requires-2 Inv-loop μ-loop
 wide-requires-2 c κs = search needs
@@ -66,17 +86,17 @@ mul-with-exit : tie.Need-mul-with-exit Inv-loop μ-loop
 mul-with-exit c = omega (arith, c .wide2 .ensures .1)
 
 sub-with-exit : tie.Need-sub-with-exit Inv-loop μ-loop
-sub-with-exit c = let l = c .before .before .before .before in omega (arith, exit-inside (l .before .before .before .before .before .before .before .before .before .pre .0) (l .before .before .before .before .before .before .before .before .before .pre .1) (l .before .before .small .ensures .0) (l .loop-test .taken) (c .before .before .wide .ensures .0) (c .wide2 .ensures .0))
+sub-with-exit c = omega (arith, placed-inside (placed c))
 
 part-with-exit-start : tie.Need-part-with-exit-start Inv-loop μ-loop
-part-with-exit-start c = let l = c .before .before .before .before in omega (arith, exit-inside (l .before .before .before .before .before .before .before .before .before .pre .0) (l .before .before .before .before .before .before .before .before .before .pre .1) (l .before .before .small .ensures .0) (l .loop-test .taken) (c .before .before .wide .ensures .0) (c .wide2 .ensures .0))
+part-with-exit-start c = omega (arith, placed-inside (placed c))
 
 part-with-exit-end : tie.Need-part-with-exit-end Inv-loop μ-loop
 part-with-exit-end c = search needs
 
 with-exit-requires : tie.Need-with-exit-requires Inv-loop μ-loop
-with-exit-requires c κs = let a = c .before in let l = a .before .before .before .before in
-    (exit-first (l .before .before .before .before .before .before .before .before .before .pre .0) (l .before .before .before .before .before .before .before .before .before .pre .1) (l .before .before .small .ensures .0) (l .loop-test .taken) (a .before .before .wide .ensures .0) (a .wide2 .ensures .0), summed-sized (net-of (l .before .before .before .before .before .before .before .before .before .args .words .now)) (l .before .before .before .before .before .before .before .before .before .args .s) (l .before .loop .inv .1) (omega (arith, count-few (l .before .before .before .before .before .before .before .before .before .pre .0) (l .before .before .before .before .before .before .before .before .before .pre .1) (l .before .before .small .ensures .0))))
+with-exit-requires c κs = let l = c .before .before .before .before .before in let s = start (l .before .before) in
+    (placed-first (placed (c .before)), summed-sized (net-of (s .args .words .now)) (s .args .s) (l .before .loop .inv .1) (omega (arith, few (l .before .before))))
 
 add-i : tie.Need-add-i Inv-loop μ-loop
 add-i c = omega arith
@@ -85,11 +105,14 @@ loop-less : tie.Need-loop-less Inv-loop μ-loop
 loop-less c = omega arith
 
 loop-again : tie.Need-loop-again Inv-loop μ-loop
-loop-again c = let a = c .before .before in let l = a .before .before .before .before in let s = l .before .before .before .before .before .before .before .before .before in
-    (omega arith, summed-more (net-of (s .args .words .now)) (s .args .s) (l .before .loop .inv .1) _ (exit-more (l .before .before .before .before .before .before .before .before .before .pre .0) (l .before .before .before .before .before .before .before .before .before .pre .1) (l .before .before .small .ensures .0) (l .loop-test .taken)) (exit-manner (l .before .before .before .before .before .before .before .before .before .pre .0) (l .before .before .before .before .before .before .before .before .before .pre .1) (l .before .before .small .ensures .0) (l .loop-test .taken) (a .before .before .wide .ensures .0) (a .wide2 .ensures .0)) (exit-manner-valid (l .before .before .before .before .before .before .before .before .before .pre .0) (l .before .before .before .before .before .before .before .before .before .pre .1) (l .before .before .small .ensures .0) (l .loop-test .taken) (a .before .before .wide .ensures .0) (a .wide2 .ensures .0)) (c .with-exit .ensures))
+loop-again c = let l = c .before .before .before .before .before .before in let s = start (l .before .before) in (
+  omega arith,
+  summed-more (net-of (s .args .words .now)) (s .args .s) (l .before .loop .inv .1)
+      (exit-more (s .pre .0) (s .pre .1) (l .before .before .small .ensures .0) (l .loop-test .taken)) (placed (c .before .before)) (c .with-exit .ensures),
+)
 
 returns : tie.Need-returns Inv-loop μ-loop
-returns c = let l = c .before in let s = l .before .before .before .before .before .before .before .before in
+returns c = let l = c .before in let s = start (l .before) in
     summed-all (net-of (s .args .words .now)) (s .args .s) (l .loop .inv .1) (omega (arith, count-is (s .pre .0) (s .pre .1) (l .before .small .ensures .0)))
 
 pub sums-of-spec : {M : Type 1} → statement M

@@ -5,7 +5,9 @@ use mathlib.Core.Bool.{false}
 use native.Mathlib.Omega.{arith}
 use borrow.Author.Needs.{needs}
 use lib.Dec.{eqb, lit≤}
+use lib.IntN.{pos}
 use lib.ListN.{getD}
+use Rattle.figure.specs.Operations.{times-down, divided-up, times-ten}
 use Rattle.figure.specs.Operands.{Sized}
 use Rattle.figure.proofs.Sized.{sized-≤, times-down-sized, minus-down-sized, divided-up-sized}
 use Rattle.model.specs.Words.{kind}
@@ -17,7 +19,6 @@ use Rattle.bounds.proofs.Firsts.{SlowRead, first-fast, first-long, slow
 use Rattle.bounds.proofs.StepLaws.{grains-positive, class3-is}
 use Rattle.bounds.proofs.steps.class3_step.Statement.{statement}
 use Rattle.bounds.proofs.steps.class3_step.Tie as tie
-use Rattle.bounds.proofs.steps.class3_loss.Reads as class3-loss-reads
 
 not-seven : (c : tie.Start) → eqb (kind (getD (c .args .part .now) 0 0)) 7 ≡ false
 not-seven c = sym (first-fast (c .pre .0 .0)) ∙ c .pre .0 .1
@@ -31,18 +32,22 @@ divisor-sized c = let s = c .before .before .before .before in rw (c .times-down
 divisor-above : (c : tie.After-times-down) → Above (c .times-down .result)
 divisor-above c = let s = c .before .before .before .before in rw (c .times-down .ensures) (times-down-above (s .args .mean) (s .args .time) (s .pre .1 .1 .0) (s .pre .1 .1 .1))
 
+goal-is : (c : tie.After-times-ten) → let s = c .before .before .before .before .before .before in
+    c .times-ten .result ≡ times-ten (divided-up (s .args .moment) (times-down (s .args .mean) (s .args .time))) (pos 12)
+goal-is c = let q = c .before in rw (q .divided-up .ensures, q .before .times-down .ensures) at (c .times-ten .ensures)
+
 goal-sized : (c : tie.After-times-ten) → Sized 9 1100 (c .times-ten .result)
 goal-sized c = let s = c .before .before .before .before .before .before in
-    rw (c .times-ten .ensures, c .before .divided-up .ensures, c .before .before .times-down .ensures)
-    (goal3-sized (s .pre .1 .0 .2) (s .pre .1 .0 .1) (s .pre .1 .0 .3) (times-down-above (s .args .mean) (s .args .time) (s .pre .1 .1 .0) (s .pre .1 .1 .1)))
+    rw (goal-is c) (goal3-sized (s .pre .1 .0 .2) (s .pre .1 .0 .1) (s .pre .1 .0 .3)
+    (times-down-above (s .args .mean) (s .args .time) (s .pre .1 .1 .0) (s .pre .1 .1 .1)))
 
 grains-low : (c : tie.After-least) → 1 ≤ c .least .result
 grains-low c = grains-positive 2 (c .before .times-ten .result) (c .least .ensures .0)
 
 loss-sized : (c : tie.After-class3-loss) → Sized 9 1100 (c .class3-loss .result)
 unfolding class3-loss-of
-loss-sized c = let s = c .before .before .before .before .before .before .before .before in
-    rw (c .class3-loss .ensures) (loss3-sized (s .pre .1 .0 .0) (s .pre .1 .0 .2) (s .pre .1 .0 .3) (s .pre .1 .1 .1) (grains-low (c .before)) (c .before .least .ensures .1))
+loss-sized c = let n = c .before in let s = n .before .before .before .before .before .before .before in
+    rw (c .class3-loss .ensures) (loss3-sized (s .pre .1 .0 .0) (s .pre .1 .0 .2) (s .pre .1 .0 .3) (s .pre .1 .1 .1) (grains-low n) (n .least .ensures .1))
 
 sub-figure-at : tie.Need-sub-figure-at
 sub-figure-at c = omega (arith, first-long (c .before .pre .0 .0))
@@ -60,30 +65,36 @@ times-down-requires : tie.Need-times-down-requires
 times-down-requires c κs = search needs
 
 divided-up-requires : tie.Need-divided-up-requires
-divided-up-requires c κs = let s = c .before .before .before .before in (sized-≤ (lit≤ tt) (s .pre .1 .0 .2), sized-≤ (lit≤ tt) (divisor-sized c), divisor-above c)
+divided-up-requires c κs = let s = c .before .before .before .before in
+    (sized-≤ (lit≤ tt) (s .pre .1 .0 .2), sized-≤ (lit≤ tt) (divisor-sized c), divisor-above c)
 
 times-ten-requires : tie.Need-times-ten-requires
-times-ten-requires c κs = let s = c .before .before .before .before .before in
-    (rw (c .divided-up .ensures) (sized-≤ (lit≤ tt) (divided-up-sized (s .pre .1 .0 .2) (divisor-sized (c .before)) (divisor-above (c .before)))), lit≤ tt)
+times-ten-requires c κs = let d = c .before in let s = d .before .before .before .before in
+    (rw (c .divided-up .ensures) (sized-≤ (lit≤ tt) (divided-up-sized (s .pre .1 .0 .2) (divisor-sized d) (divisor-above d))), lit≤ tt)
 
 least-requires : tie.Need-least-requires
 least-requires c κs = (goal-sized c) .is-figure
 
 class3-loss-requires : tie.Need-class3-loss-requires
-class3-loss-requires c κs = let s = c .before .before .before .before .before .before .before in
-    ((sized-≤ (lit≤ tt) (s .pre .1 .0 .0), sized-≤ (lit≤ tt) (s .pre .1 .0 .2), sized-≤ (lit≤ tt) (s .pre .1 .0 .3)), (s .pre .1 .1 .1, grains-low c, c .least .ensures .1))
+class3-loss-requires c κs = let s = c .before .before .before .before .before .before .before in (
+  (sized-≤ (lit≤ tt) (s .pre .1 .0 .0), sized-≤ (lit≤ tt) (s .pre .1 .0 .2), sized-≤ (lit≤ tt) (s .pre .1 .0 .3)),
+  (s .pre .1 .1 .1, grains-low c, c .least .ensures .1),
+)
 
 minus-down-requires : tie.Need-minus-down-requires
 minus-down-requires c κs = (sized-≤ (lit≤ tt) (c .before .before .before .before .before .before .before .before .pre .1 .0 .1), sized-≤ (lit≤ tt) (loss-sized c))
 
 times-down-requires-2 : tie.Need-times-down-requires-2
-times-down-requires-2 c κs = (sized-≤ (lit≤ tt) (rate-sized (figure (c .before .before .before .before .before .before))), rw (c .minus-down .ensures) (sized-≤ (lit≤ tt) (minus-down-sized (c .before .before .before .before .before .before .before .before .before .pre .1 .0 .1) (loss-sized (c .before)))))
+times-down-requires-2 c κs = let y = c .before in (
+  sized-≤ (lit≤ tt) (rate-sized (figure (y .before .before .before .before .before))),
+  rw (c .minus-down .ensures) (sized-≤ (lit≤ tt) (minus-down-sized (y .before .before .before .before .before .before .before .before .pre .1 .0 .1) (loss-sized y))),
+)
 
 returns : tie.Need-returns
-returns c = let s = c .before .before .before .before .before .before .before .before .before .before in
-    class3-is (s .args .rate) (s .args .mean) (s .args .moment) (s .args .time) (figure (c .before .before .before .before .before .before .before))
-    (rw (c .before .before .before .before .before .divided-up .ensures, c .before .before .before .before .before .before .times-down .ensures) at (c .before .before .before .before .times-ten .ensures)) (c .before .before .before .least .ensures .0) (c .before .before .class3-loss .ensures)
-    (c .before .minus-down .ensures) (c .times-down2 .ensures)
+returns c =
+    let rest = c .before in let y = rest .before in let n = y .before in let g = n .before in let s = g .before .before .before .before .before .before in
+    class3-is (s .args .rate) (s .args .mean) (s .args .moment) (s .args .time) (figure (g .before .before .before)) (goal-is g) (n .least .ensures .0)
+    (y .class3-loss .ensures) (rest .minus-down .ensures) (c .times-down2 .ensures)
 
 pub class3-step-spec : {M : Type 1} → statement M
 class3-step-spec =

@@ -1,7 +1,6 @@
 -- `steps::fill_steps` meets its contract. The loop's invariant: the steps of the transitions below j are in the tables. Assumes nothing.
 use Prim.Native.Nat.{_-_, _≤_, _<_}
 use native.Mathlib.Omega.{arith}
-use borrow.Author.Needs.{needs}
 use Rattle.bounds.specs.Tables.{net-of}
 use Rattle.bounds.proofs.StepTables.{share-operand, factor-operand, grains-few, StepsDone, steps-none, steps-more, steps-all}
 use Rattle.bounds.proofs.steps.fill_steps.Statement.{statement}
@@ -61,8 +60,12 @@ loop-less : tie.Need-loop-less Inv-loop μ-loop
 loop-less c = omega arith
 
 loop-again : tie.Need-loop-again Inv-loop μ-loop
-loop-again c = let a = c .before .before .before .before .before in let l = a .before in
-    (omega arith, steps-more (net-of (l .before .before .before .args .words .now)) (c .before .before .pack .result) (c .pack2 .result) (small l) (a .step-at .ensures) (c .before .before .pack .ensures) (c .pack2 .ensures) (l .before .loop .inv .1))
+loop-again c =
+    let c1 = c .before .before in let a = c1 .before .before .before in let l = a .before in (
+      omega arith,
+      steps-more (net-of (l .before .before .before .args .words .now)) (c1 .pack .result) (c .pack2 .result) (small l) (a .step-at .ensures) (c1 .pack .ensures)
+          (c .pack2 .ensures) (l .before .loop .inv .1),
+    )
 
 returns : tie.Need-returns Inv-loop μ-loop
 returns c = steps-all (net-of (c .before .before .before .args .words .now)) (c .loop-test .left) (c .before .loop .inv .1)

@@ -9,14 +9,35 @@ use lib.Dec.{eqb}
 use lib.ListN.{getD}
 use Rattle.model.specs.Model.{is-fast}
 use Rattle.model.specs.Words.{kind}
-use Rattle.bounds.proofs.StepPlaces.{time-in-range, time-positive, step-inside, step-first, step-manner, step-fast, origin-small, rate-in-range, floor-in-range, moment-in-range, rate-low, found-fast, found-lone, found-slow}
+use Rattle.model.specs.Index.{transition}
+use Rattle.bounds.specs.Tables.{net-of}
+use Rattle.bounds.proofs.Firsts.{Placed, placed-inside, placed-first, placed-manner, placed-fast, behind-low}
+use Rattle.bounds.proofs.StepPlaces.{Leaves, time-in-range, time-positive, step-placed, step-leaves, found-fast, found-lone, found-slow}
 use Rattle.bounds.proofs.steps.step_at.Statement.{statement}
 use Rattle.bounds.proofs.steps.step_at.Tie as tie
 
-is-seven : (c : tie.Then1) → eqb (kind (getD (c .before .before .before .before .before .before .before .before .before .args .words .now) (c .before .before .before .before .before .before .wide .result) 0)) 7 ≡ true
+abbrev start : tie.After-wide → tie.Start
+start c = c .before .before .before
+
+abbrev found-place : tie.After-is-fast → tie.After-wide
+found-place c = c .before .before .before .before .before
+
+-- the transition's place, and the state that it leaves
+
+placed : (c : tie.After-wide) → let s = start c in Placed (s .args .words .now) (transition (net-of (s .args .words .now)) (s .args .j)) (c .wide .result)
+placed c = let s = start c in step-placed (s .pre .0) (s .pre .1) (c .wide .ensures .0)
+
+leaves : (c : tie.After-origin) → let s = start (c .before .before) in
+    Leaves (s .args .words .now) (s .args .rates .now) (s .args .floors .now) (s .args .moments .now)
+    (transition (net-of (s .args .words .now)) (s .args .j)) (c .origin .result)
+leaves c = let w = c .before .before in let s = start w in step-leaves (s .pre .0) (s .pre .1) (w .wide .ensures .0) (c .origin .ensures .0)
+
+-- the test of the word's kind, in each arm
+
+is-seven : (c : tie.Then1) → let w = found-place (c .before) in eqb (kind (getD (start w .args .words .now) (w .wide .result) 0)) 7 ≡ true
 is-seven c = sym (c .before .is-fast .ensures) ∙ c .if1 .taken
 
-not-seven : (c : tie.Else1) → eqb (kind (getD (c .before .before .before .before .before .before .before .before .before .args .words .now) (c .before .before .before .before .before .before .wide .result) 0)) 7 ≡ false
+not-seven : (c : tie.Else1) → let w = found-place (c .before) in eqb (kind (getD (start w .args .words .now) (w .wide .result) 0)) 7 ≡ false
 not-seven c = sym (c .before .is-fast .ensures) ∙ c .if1 .left
 
 mul-wide : tie.Need-mul-wide
@@ -32,7 +53,7 @@ mul-w : tie.Need-mul-w
 mul-w c = search needs
 
 shared-slice-read-w : tie.Need-shared-slice-read-w
-shared-slice-read-w c = omega (arith, step-inside (c .before .before .before .before .pre .0) (c .before .before .before .before .pre .1) (c .before .wide .ensures .0))
+shared-slice-read-w c = omega (arith, placed-inside (placed (c .before)))
 
 origin-requires : tie.Need-origin-requires
 origin-requires c κs = search needs
@@ -41,7 +62,7 @@ mul-unpack : tie.Need-mul-unpack
 mul-unpack c = search needs
 
 element-copy-out-unpack : tie.Need-element-copy-out-unpack
-element-copy-out-unpack c = origin-small (c .before .before .before .before .before .pre .0) (c .before .before .before .before .before .pre .1) (c .before .before .wide .ensures .0) (c .origin .ensures .0)
+element-copy-out-unpack c = leaves c .small
 
 unpack-requires : tie.Need-unpack-requires
 unpack-requires c κs = search needs
@@ -53,27 +74,29 @@ mul-class2-step : tie.Need-mul-class2-step
 mul-class2-step c = search needs
 
 sub-class2-step : tie.Need-sub-class2-step
-sub-class2-step c = omega (arith, step-inside (c .before .before .before .before .before .before .before .before .before .pre .0) (c .before .before .before .before .before .before .before .before .before .pre .1) (c .before .before .before .before .before .before .wide .ensures .0))
+sub-class2-step c = omega (arith, placed-inside (placed (found-place (c .before))))
 
 part-class2-step-start : tie.Need-part-class2-step-start
-part-class2-step-start c = omega (arith, step-inside (c .before .before .before .before .before .before .before .before .before .pre .0) (c .before .before .before .before .before .before .before .before .before .pre .1) (c .before .before .before .before .before .before .wide .ensures .0))
+part-class2-step-start c = omega (arith, placed-inside (placed (found-place (c .before))))
 
 part-class2-step-end : tie.Need-part-class2-step-end
 part-class2-step-end c = search needs
 
 class2-step-requires : tie.Need-class2-step-requires
-class2-step-requires c κs = let t = c .before in
-    ((step-first (t .before .before .before .before .before .before .before .before .before .pre .0) (t .before .before .before .before .before .before .before .before .before .pre .1) (t .before .before .before .before .before .before .wide .ensures .0), ap is-fast (step-manner (t .before .before .before .before .before .before .before .before .before .pre .0) (t .before .before .before .before .before .before .before .before .before .pre .1) (t .before .before .before .before .before .before .wide .ensures .0)) ∙ step-fast (t .before .before .before .before .before .before .before .before .before .pre .0) (t .before .before .before .before .before .before .before .before .before .pre .1) (t .before .before .before .before .before .before .wide .ensures .0) ∙ is-seven t), (rate-in-range (t .before .before .before .before .before .before .before .before .before .pre .0) (t .before .before .before .before .before .before .before .before .before .pre .1) (t .before .before .before .before .before .before .wide .ensures .0) (t .before .before .before .before .origin .ensures .0) (t .before .before .unpack .ensures), time-in-range (t .before .before .before .before .before .before .before .before .before .pre .0), time-positive (t .before .before .before .before .before .before .before .before .before .pre .0)))
+class2-step-requires c κs = let t = c .before in let p = placed (found-place (t .before)) in let s = start (found-place (t .before)) in (
+  (placed-first p, ap is-fast (placed-manner p) ∙ placed-fast p ∙ is-seven t),
+  (rw (t .before .before .unpack .ensures) (leaves (t .before .before .before .before) .rate .sized), time-in-range (s .pre .0), time-positive (s .pre .0)),
+)
 
 returns : tie.Need-returns
-returns c = let t = c .before .before in
-    found-fast (t .before .before .before .before .before .before .before .before .before .pre .0) (t .before .before .before .before .before .before .before .before .before .pre .1) (t .before .before .before .before .before .before .wide .ensures .0) (t .before .before .before .before .origin .ensures .0) (t .before .before .unpack .ensures) (is-seven t) (c .class2-step .ensures)
+returns c = let t = c .before .before in let w = found-place (t .before) in
+    found-fast (start w .pre .0) (placed w) (leaves (t .before .before .before .before)) (t .before .before .unpack .ensures) (is-seven t) (c .class2-step .ensures)
 
 mul-unpack-2 : tie.Need-mul-unpack-2
 mul-unpack-2 c = search needs
 
 element-copy-out-unpack-2 : tie.Need-element-copy-out-unpack-2
-element-copy-out-unpack-2 c = origin-small (c .before .before .before .before .before .before .before .before .before .pre .0) (c .before .before .before .before .before .before .before .before .before .pre .1) (c .before .before .before .before .before .before .wide .ensures .0) (c .before .before .before .before .origin .ensures .0)
+element-copy-out-unpack-2 c = leaves (c .before .before .before .before) .small
 
 unpack-requires-2 : tie.Need-unpack-requires-2
 unpack-requires-2 c κs = search needs
@@ -85,29 +108,30 @@ mul-figure-at : tie.Need-mul-figure-at
 mul-figure-at c = search needs
 
 sub-figure-at : tie.Need-sub-figure-at
-sub-figure-at c = omega (arith, step-inside (c .before .before .before .before .before .before .before .before .before .before .before .before .before .pre .0) (c .before .before .before .before .before .before .before .before .before .before .before .before .before .pre .1) (c .before .before .before .before .before .before .before .before .before .before .wide .ensures .0))
+sub-figure-at c = omega (arith, placed-inside (placed (found-place (c .before .before .before .before .before))))
 
 part-figure-at-start : tie.Need-part-figure-at-start
-part-figure-at-start c = omega (arith, step-inside (c .before .before .before .before .before .before .before .before .before .before .before .before .before .pre .0) (c .before .before .before .before .before .before .before .before .before .before .before .before .before .pre .1) (c .before .before .before .before .before .before .before .before .before .before .wide .ensures .0))
+part-figure-at-start c = omega (arith, placed-inside (placed (found-place (c .before .before .before .before .before))))
 
 part-figure-at-end : tie.Need-part-figure-at-end
 part-figure-at-end c = search needs
 
 figure-at-requires : tie.Need-figure-at-requires
-figure-at-requires c κs = rate-low (c .before .before .before .before .before .before .before .before .before .before .before .before .before .before .pre .0) (c .before .before .before .before .before .before .before .before .before .before .before .before .before .before .pre .1) (c .before .before .before .before .before .before .before .before .before .before .before .wide .ensures .0) (not-seven (c .before .before .before .before .before))
+figure-at-requires c κs = let e = c .before .before .before .before .before in behind-low (placed (found-place (e .before))) (not-seven e)
 
 zero-requires : tie.Need-zero-requires
 zero-requires c κs = search needs
 
 returns-2 : tie.Need-returns-2
-returns-2 c =
-    found-lone (c .before .before .before .before .before .before .before .before .before .before .before .before .before .before .before .before .pre .0) (c .before .before .before .before .before .before .before .before .before .before .before .before .before .before .before .before .pre .1) (c .before .before .before .before .before .before .before .before .before .before .before .before .before .wide .ensures .0) (c .before .before .before .before .before .before .before .before .before .before .before .origin .ensures .0) (c .before .before .before .before .before .before .before .before .before .unpack .ensures) (not-seven (c .before .before .before .before .before .before .before)) (c .before .before .before .before .before .unpack2 .ensures) (c .before .before .before .if2 .taken) (c .before .figure-at .ensures) (c .zero .ensures)
+returns-2 c = let e = c .before .before .before .before .before .before .before in let w = found-place (e .before) in
+    found-lone (start w .pre .0) (placed w) (leaves (e .before .before .before .before)) (e .before .before .unpack .ensures) (not-seven e) (c .before .before .before .before .before .unpack2 .ensures)
+    (c .before .before .before .if2 .taken) (c .before .figure-at .ensures) (c .zero .ensures)
 
 mul-unpack-3 : tie.Need-mul-unpack-3
 mul-unpack-3 c = search needs
 
 element-copy-out-unpack-3 : tie.Need-element-copy-out-unpack-3
-element-copy-out-unpack-3 c = origin-small (c .before .before .before .before .before .before .before .before .before .before .before .before .before .pre .0) (c .before .before .before .before .before .before .before .before .before .before .before .before .before .pre .1) (c .before .before .before .before .before .before .before .before .before .before .wide .ensures .0) (c .before .before .before .before .before .before .before .before .origin .ensures .0)
+element-copy-out-unpack-3 c = leaves (c .before .before .before .before .before .before .before .before) .small
 
 unpack-requires-3 : tie.Need-unpack-requires-3
 unpack-requires-3 c κs = search needs
@@ -116,21 +140,33 @@ mul-class3-step : tie.Need-mul-class3-step
 mul-class3-step c = search needs
 
 sub-class3-step : tie.Need-sub-class3-step
-sub-class3-step c = omega (arith, step-inside (c .before .before .before .before .before .before .before .before .before .before .before .before .before .before .before .pre .0) (c .before .before .before .before .before .before .before .before .before .before .before .before .before .before .before .pre .1) (c .before .before .before .before .before .before .before .before .before .before .before .before .wide .ensures .0))
+sub-class3-step c = omega (arith, placed-inside (placed (found-place (c .before .before .before .before .before .before .before))))
 
 part-class3-step-start : tie.Need-part-class3-step-start
-part-class3-step-start c = omega (arith, step-inside (c .before .before .before .before .before .before .before .before .before .before .before .before .before .before .before .pre .0) (c .before .before .before .before .before .before .before .before .before .before .before .before .before .before .before .pre .1) (c .before .before .before .before .before .before .before .before .before .before .before .before .wide .ensures .0))
+part-class3-step-start c = omega (arith, placed-inside (placed (found-place (c .before .before .before .before .before .before .before))))
 
 part-class3-step-end : tie.Need-part-class3-step-end
 part-class3-step-end c = search needs
 
 class3-step-requires : tie.Need-class3-step-requires
-class3-step-requires c κs = let u = c .before in
-    ((step-first (u .before .before .before .before .before .before .before .before .before .before .before .before .before .before .before .pre .0) (u .before .before .before .before .before .before .before .before .before .before .before .before .before .before .before .pre .1) (u .before .before .before .before .before .before .before .before .before .before .before .before .wide .ensures .0), ap is-fast (step-manner (u .before .before .before .before .before .before .before .before .before .before .before .before .before .before .before .pre .0) (u .before .before .before .before .before .before .before .before .before .before .before .before .before .before .before .pre .1) (u .before .before .before .before .before .before .before .before .before .before .before .before .wide .ensures .0)) ∙ step-fast (u .before .before .before .before .before .before .before .before .before .before .before .before .before .before .before .pre .0) (u .before .before .before .before .before .before .before .before .before .before .before .before .before .before .before .pre .1) (u .before .before .before .before .before .before .before .before .before .before .before .before .wide .ensures .0) ∙ not-seven (u .before .before .before .before .before .before)), ((rate-in-range (u .before .before .before .before .before .before .before .before .before .before .before .before .before .before .before .pre .0) (u .before .before .before .before .before .before .before .before .before .before .before .before .before .before .before .pre .1) (u .before .before .before .before .before .before .before .before .before .before .before .before .wide .ensures .0) (u .before .before .before .before .before .before .before .before .before .before .origin .ensures .0) (u .before .before .before .before .before .before .before .before .unpack .ensures), floor-in-range (u .before .before .before .before .before .before .before .before .before .before .before .before .before .before .before .pre .0) (u .before .before .before .before .before .before .before .before .before .before .before .before .before .before .before .pre .1) (u .before .before .before .before .before .before .before .before .before .before .before .before .wide .ensures .0) (u .before .before .before .before .before .before .before .before .before .before .origin .ensures .0) (u .before .before .before .before .unpack2 .ensures), moment-in-range (u .before .before .before .before .before .before .before .before .before .before .before .before .before .before .before .pre .0) (u .before .before .before .before .before .before .before .before .before .before .before .before .before .before .before .pre .1) (u .before .before .before .before .before .before .before .before .before .before .before .before .wide .ensures .0) (u .before .before .before .before .before .before .before .before .before .before .origin .ensures .0) (u .unpack3 .ensures), time-in-range (u .before .before .before .before .before .before .before .before .before .before .before .before .before .before .before .pre .0)), (pos-of-ne-zero (u .before .before .if2 .left), time-positive (u .before .before .before .before .before .before .before .before .before .before .before .before .before .before .before .pre .0))))
+class3-step-requires c κs = let u = c .before in let e = u .before .before .before .before .before .before in let p = placed (found-place (e .before)) in
+    let s = start (found-place (e .before)) in let l = leaves (e .before .before .before .before) in (
+      (placed-first p, ap is-fast (placed-manner p) ∙ placed-fast p ∙ not-seven e),
+      (
+        (
+          rw (e .before .before .unpack .ensures) (l .rate .sized),
+          rw (u .before .before .before .before .unpack2 .ensures) (l .floor .sized),
+          rw (u .unpack3 .ensures) (l .moment .sized),
+          time-in-range (s .pre .0),
+        ),
+        (pos-of-ne-zero (u .before .before .if2 .left), time-positive (s .pre .0)),
+      ),
+    )
 
 returns-3 : tie.Need-returns-3
-returns-3 c = let u = c .before .before in
-    found-slow (u .before .before .before .before .before .before .before .before .before .before .before .before .before .before .before .pre .0) (u .before .before .before .before .before .before .before .before .before .before .before .before .before .before .before .pre .1) (u .before .before .before .before .before .before .before .before .before .before .before .before .wide .ensures .0) (u .before .before .before .before .before .before .before .before .before .before .origin .ensures .0) (u .before .before .before .before .before .before .before .before .unpack .ensures) (not-seven (u .before .before .before .before .before .before)) (u .before .before .before .before .unpack2 .ensures) (u .before .before .if2 .left) (u .unpack3 .ensures) (c .class3-step .ensures)
+returns-3 c = let u = c .before .before in let e = u .before .before .before .before .before .before in let w = found-place (e .before) in
+    found-slow (start w .pre .0) (placed w) (leaves (e .before .before .before .before)) (e .before .before .unpack .ensures) (not-seven e) (u .before .before .before .before .unpack2 .ensures)
+    (u .before .before .if2 .left) (u .unpack3 .ensures) (c .class3-step .ensures)
 
 pub step-at-spec : {M : Type 1} → statement M
 step-at-spec =

@@ -53,7 +53,7 @@ abbrev loop-begin : (t : ℕ) (c : walk-lts.At-loop (claims t) (walk-at t) walk.
 loop-begin t c = c .before .before .before .before .before .before .before
 
 more-at : (t : ℕ) (c : walk-lts.In-loop (claims t) (walk-at t) walk.Post walk-Inv-loop walk-μ-loop) → c .before .loop .i < getD ((loop-begin t (c .before)) .args .counts .now) ((loop-begin t (c .before)) .args .tip .state) 0
-more-at t c = rw (← c .before .before .small .ensures .0) (c .loop-test .taken)
+more-at t c = omega (arith, c .before .before .small .ensures .0, c .loop-test .taken)
 
 abbrev TurnAt : (t : ℕ) (c : walk-lts.After-exit-at (claims t) (walk-at t) walk.Post walk-Inv-loop walk-μ-loop) → Type 0
 TurnAt t c =
@@ -209,7 +209,7 @@ walk-returns-3 : (t : ℕ) → walk-lts.Need-returns-3 (claims t) (walk-at t) wa
 walk-returns-3 t c =
     let k = c .before in
     let r = (loop-begin t k) .pre .1 in
-    (loop-end r (k .loop .inv .1) (rw (← k .before .small .ensures .0) (c .loop-test .left)), k .loop .inv .1 .counted)
+    (loop-end r (k .loop .inv .1) (omega (arith, k .before .small .ensures .0, c .loop-test .left)), k .loop .inv .1 .counted)
 
 pub +walk-spec : {M : Type 1} → statement M
 +walk-spec = close μ-walk λ t. walk-lts.spec (claims t)
