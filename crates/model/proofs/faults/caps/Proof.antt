@@ -16,13 +16,23 @@ kind-requires : tie.Need-kind-requires
 kind-requires c κs = search needs
 
 returns-2 : tie.Need-returns-2
-returns-2 c = sym (a-word _ _ _ (c .before .before .before .if1 .left) ∙ here _ _ _ (differs-true (c .before .kind .ensures) (c .if2 .taken)))
+returns-2 c =
+    let e₁ = c .before .before .before in
+    sym
+    (a-word _ _ _ (e₁ .if1 .left)
+    ∙ here _ _ _ (differs-true (c .before .kind .ensures) (c .if2 .taken)))
 
 target-requires : tie.Need-target-requires
 target-requires c κs = search needs
 
 returns-3 : tie.Need-returns-3
-returns-3 c = sym (a-word _ _ _ (c .before .before .before .before .before .if1 .left) ∙ later _ _ _ (differs-false (c .before .before .before .kind .ensures) (c .before .before .if2 .left)) ∙ here _ _ _ (differs-true (c .before .target .ensures .0) (c .if3 .taken)))
+returns-3 c =
+    let e₂ = c .before .before in
+    let e₁ = e₂ .before .before .before in
+    sym
+    (a-word _ _ _ (e₁ .if1 .left)
+    ∙ later _ _ _ (differs-false (e₂ .before .kind .ensures) (e₂ .if2 .left))
+    ∙ here _ _ _ (differs-true (c .before .target .ensures .0) (c .if3 .taken)))
 
 scale-requires : tie.Need-scale-requires
 scale-requires c κs = search needs
@@ -34,7 +44,15 @@ outside-requires : tie.Need-outside-requires
 outside-requires c κs = search needs
 
 returns-4 : tie.Need-returns-4
-returns-4 c = sym (a-word _ _ _ (c .before .before .before .before .before .before .before .before .if1 .left) ∙ later _ _ _ (differs-false (c .before .before .before .before .before .before .kind .ensures) (c .before .before .before .before .before .if2 .left)) ∙ later _ _ _ (differs-false (c .before .before .before .before .target .ensures .0) (c .before .before .before .if3 .left)) ∙ here _ _ _ (sym (c .before .outside .ensures ∙ ap (outside 1 24) (c .before .before .scale .ensures)) ∙ c .if4 .taken))
+returns-4 c =
+    let e₃ = c .before .before .before in
+    let e₂ = e₃ .before .before in
+    let e₁ = e₂ .before .before .before in
+    sym
+    (a-word _ _ _ (e₁ .if1 .left)
+    ∙ later _ _ _ (differs-false (e₂ .before .kind .ensures) (e₂ .if2 .left))
+    ∙ later _ _ _ (differs-false (e₃ .before .target .ensures .0) (e₃ .if3 .left))
+    ∙ here _ _ _ (sym (c .before .outside .ensures ∙ ap (outside 1 24) (c .before .before .scale .ensures)) ∙ c .if4 .taken))
 
 entries-requires : tie.Need-entries-requires
 entries-requires c κs = search needs
@@ -46,10 +64,31 @@ outside-requires-2 : tie.Need-outside-requires-2
 outside-requires-2 c κs = search needs
 
 returns-5 : tie.Need-returns-5
-returns-5 c = sym (a-word _ _ _ (c .before .before .before .before .before .before .before .before .before .before .before .if1 .left) ∙ later _ _ _ (differs-false (c .before .before .before .before .before .before .before .before .before .kind .ensures) (c .before .before .before .before .before .before .before .before .if2 .left)) ∙ later _ _ _ (differs-false (c .before .before .before .before .before .before .before .target .ensures .0) (c .before .before .before .before .before .before .if3 .left)) ∙ later _ _ _ (sym (c .before .before .before .before .outside .ensures ∙ ap (outside 1 24) (c .before .before .before .before .before .scale .ensures)) ∙ c .before .before .before .if4 .left) ∙ here _ _ _ (sym (c .before .outside2 .ensures ∙ ap (outside 1 24) (c .before .before .entries .ensures)) ∙ c .if5 .taken))
+returns-5 c =
+    let e₄ = c .before .before .before in
+    let e₃ = e₄ .before .before .before in
+    let e₂ = e₃ .before .before in
+    let e₁ = e₂ .before .before .before in
+    sym
+    (a-word _ _ _ (e₁ .if1 .left)
+    ∙ later _ _ _ (differs-false (e₂ .before .kind .ensures) (e₂ .if2 .left))
+    ∙ later _ _ _ (differs-false (e₃ .before .target .ensures .0) (e₃ .if3 .left))
+    ∙ later _ _ _ (sym (e₄ .before .outside .ensures ∙ ap (outside 1 24) (e₄ .before .before .scale .ensures)) ∙ e₄ .if4 .left)
+    ∙ here _ _ _ (sym (c .before .outside2 .ensures ∙ ap (outside 1 24) (c .before .before .entries .ensures)) ∙ c .if5 .taken))
 
 returns-6 : tie.Need-returns-6
-returns-6 c = sym (a-word _ _ _ (c .before .before .before .before .before .before .before .before .before .before .before .if1 .left) ∙ later _ _ _ (differs-false (c .before .before .before .before .before .before .before .before .before .kind .ensures) (c .before .before .before .before .before .before .before .before .if2 .left)) ∙ later _ _ _ (differs-false (c .before .before .before .before .before .before .before .target .ensures .0) (c .before .before .before .before .before .before .if3 .left)) ∙ later _ _ _ (sym (c .before .before .before .before .outside .ensures ∙ ap (outside 1 24) (c .before .before .before .before .before .scale .ensures)) ∙ c .before .before .before .if4 .left) ∙ later _ _ _ (sym (c .before .outside2 .ensures ∙ ap (outside 1 24) (c .before .before .entries .ensures)) ∙ c .if5 .left) ∙ none-left _)
+returns-6 c =
+    let e₄ = c .before .before .before in
+    let e₃ = e₄ .before .before .before in
+    let e₂ = e₃ .before .before in
+    let e₁ = e₂ .before .before .before in
+    sym
+    (a-word _ _ _ (e₁ .if1 .left)
+    ∙ later _ _ _ (differs-false (e₂ .before .kind .ensures) (e₂ .if2 .left))
+    ∙ later _ _ _ (differs-false (e₃ .before .target .ensures .0) (e₃ .if3 .left))
+    ∙ later _ _ _ (sym (e₄ .before .outside .ensures ∙ ap (outside 1 24) (e₄ .before .before .scale .ensures)) ∙ e₄ .if4 .left)
+    ∙ later _ _ _ (sym (c .before .outside2 .ensures ∙ ap (outside 1 24) (c .before .before .entries .ensures)) ∙ c .if5 .left)
+    ∙ none-left _)
 
 pub caps-spec : {M : Type 1} → statement M
 caps-spec =

@@ -17,13 +17,23 @@ kind-requires : tie.Need-kind-requires
 kind-requires c κs = search needs
 
 returns-2 : tie.Need-returns-2
-returns-2 c = sym (a-word _ _ _ (c .before .before .before .if1 .left) ∙ here _ _ _ (differs-true (c .before .kind .ensures) (c .if2 .taken)))
+returns-2 c =
+    let e₁ = c .before .before .before in
+    sym
+    (a-word _ _ _ (e₁ .if1 .left)
+    ∙ here _ _ _ (differs-true (c .before .kind .ensures) (c .if2 .taken)))
 
 scale-requires : tie.Need-scale-requires
 scale-requires c κs = search needs
 
 returns-3 : tie.Need-returns-3
-returns-3 c = sym (a-word _ _ _ (c .before .before .before .before .before .if1 .left) ∙ later _ _ _ (differs-false (c .before .before .before .kind .ensures) (c .before .before .if2 .left)) ∙ here _ _ _ (or-first _ _ (lt-ltb _ _ (rw (c .before .scale .ensures) at (c .if3 .taken)))))
+returns-3 c =
+    let e₂ = c .before .before in
+    let e₁ = e₂ .before .before .before in
+    sym
+    (a-word _ _ _ (e₁ .if1 .left)
+    ∙ later _ _ _ (differs-false (e₂ .before .kind .ensures) (e₂ .if2 .left))
+    ∙ here _ _ _ (or-first _ _ (lt-ltb _ _ (rw (c .before .scale .ensures) at (c .if3 .taken)))))
 
 coefficient-requires : tie.Need-coefficient-requires
 coefficient-requires c κs = search needs
@@ -35,10 +45,25 @@ outside-requires : tie.Need-outside-requires
 outside-requires c κs = search needs
 
 returns-4 : tie.Need-returns-4
-returns-4 c = sym (a-word _ _ _ (c .before .before .before .before .before .before .before .before .if1 .left) ∙ later _ _ _ (differs-false (c .before .before .before .before .before .before .kind .ensures) (c .before .before .before .before .before .if2 .left)) ∙ here _ _ _ (or-second _ _ (le-ltb _ _ (rw (c .before .before .before .before .scale .ensures) at (c .before .before .before .if3 .left))) (sym (c .before .outside .ensures ∙ ap (outside _ 999999) (c .before .before .coefficient .ensures)) ∙ c .if4 .taken)))
+returns-4 c =
+    let e₃ = c .before .before .before in
+    let e₂ = e₃ .before .before in
+    let e₁ = e₂ .before .before .before in
+    sym
+    (a-word _ _ _ (e₁ .if1 .left)
+    ∙ later _ _ _ (differs-false (e₂ .before .kind .ensures) (e₂ .if2 .left))
+    ∙ here _ _ _ (or-second _ _ (le-ltb _ _ (rw (e₃ .before .scale .ensures) at (e₃ .if3 .left))) (sym (c .before .outside .ensures ∙ ap (outside _ 999999) (c .before .before .coefficient .ensures)) ∙ c .if4 .taken)))
 
 returns-5 : tie.Need-returns-5
-returns-5 c = sym (a-word _ _ _ (c .before .before .before .before .before .before .before .before .if1 .left) ∙ later _ _ _ (differs-false (c .before .before .before .before .before .before .kind .ensures) (c .before .before .before .before .before .if2 .left)) ∙ later _ _ _ (or-second _ _ (le-ltb _ _ (rw (c .before .before .before .before .scale .ensures) at (c .before .before .before .if3 .left))) (sym (c .before .outside .ensures ∙ ap (outside _ 999999) (c .before .before .coefficient .ensures)) ∙ c .if4 .left)) ∙ none-left _)
+returns-5 c =
+    let e₃ = c .before .before .before in
+    let e₂ = e₃ .before .before in
+    let e₁ = e₂ .before .before .before in
+    sym
+    (a-word _ _ _ (e₁ .if1 .left)
+    ∙ later _ _ _ (differs-false (e₂ .before .kind .ensures) (e₂ .if2 .left))
+    ∙ later _ _ _ (or-second _ _ (le-ltb _ _ (rw (e₃ .before .scale .ensures) at (e₃ .if3 .left))) (sym (c .before .outside .ensures ∙ ap (outside _ 999999) (c .before .before .coefficient .ensures)) ∙ c .if4 .left))
+    ∙ none-left _)
 
 pub quantity-spec : {M : Type 1} → statement M
 quantity-spec =

@@ -23,19 +23,43 @@ outside-requires : tie.Need-outside-requires
 outside-requires c κs = search needs
 
 returns-2 : tie.Need-returns-2
-returns-2 c = sym (later _ _ _ (differs-false (c .before .before .before .before .before .edition .ensures) (c .before .before .if1 .left)) ∙ here _ _ _ (or-first _ _ (sym (c .before .outside .ensures ∙ ap (outside 1 _) (c .before .before .before .before .origin .ensures .0)) ∙ c .if2 .taken)))
+returns-2 c =
+    let e₁ = c .before .before in
+    sym
+    (later _ _ _ (differs-false (e₁ .before .before .before .edition .ensures) (e₁ .if1 .left))
+    ∙ here _ _ _ (or-first _ _ (sym (c .before .outside .ensures ∙ ap (outside 1 _) (e₁ .before .before .origin .ensures .0)) ∙ c .if2 .taken)))
 
 outside-requires-2 : tie.Need-outside-requires-2
 outside-requires-2 c κs = search needs
 
 returns-3 : tie.Need-returns-3
-returns-3 c = sym (later _ _ _ (differs-false (c .before .before .before .before .before .before .before .edition .ensures) (c .before .before .before .before .if1 .left)) ∙ here _ _ _ (or-second _ _ (sym (c .before .before .before .outside .ensures ∙ ap (outside 1 _) (c .before .before .before .before .before .before .origin .ensures .0)) ∙ c .before .before .if2 .left) (sym (c .before .outside2 .ensures ∙ ap (outside 1 _) (c .before .before .before .before .before .target .ensures .0)) ∙ c .if3 .taken)))
+returns-3 c =
+    let e₂ = c .before .before in
+    let e₁ = e₂ .before .before in
+    sym
+    (later _ _ _ (differs-false (e₁ .before .before .before .edition .ensures) (e₁ .if1 .left))
+    ∙ here _ _ _ (or-second _ _ (sym (e₂ .before .outside .ensures ∙ ap (outside 1 _) (e₁ .before .before .origin .ensures .0)) ∙ e₂ .if2 .left) (sym (c .before .outside2 .ensures ∙ ap (outside 1 _) (e₁ .before .target .ensures .0)) ∙ c .if3 .taken)))
 
 returns-4 : tie.Need-returns-4
-returns-4 c = sym (later _ _ _ (differs-false (c .before .before .before .before .before .before .before .before .edition .ensures) (c .before .before .before .before .before .if1 .left)) ∙ later _ _ _ (or-second _ _ (sym (c .before .before .before .before .outside .ensures ∙ ap (outside 1 _) (c .before .before .before .before .before .before .before .origin .ensures .0)) ∙ c .before .before .before .if2 .left) (sym (c .before .before .outside2 .ensures ∙ ap (outside 1 _) (c .before .before .before .before .before .before .target .ensures .0)) ∙ c .before .if3 .left)) ∙ here _ _ _ (eq-eqb _ _ (sym (c .before .before .before .before .before .before .before .origin .ensures .0) ∙ c .if4 .taken ∙ c .before .before .before .before .before .before .target .ensures .0)))
+returns-4 c =
+    let e₃ = c .before in
+    let e₂ = e₃ .before .before in
+    let e₁ = e₂ .before .before in
+    sym
+    (later _ _ _ (differs-false (e₁ .before .before .before .edition .ensures) (e₁ .if1 .left))
+    ∙ later _ _ _ (or-second _ _ (sym (e₂ .before .outside .ensures ∙ ap (outside 1 _) (e₁ .before .before .origin .ensures .0)) ∙ e₂ .if2 .left) (sym (e₃ .before .outside2 .ensures ∙ ap (outside 1 _) (e₁ .before .target .ensures .0)) ∙ e₃ .if3 .left))
+    ∙ here _ _ _ (eq-eqb _ _ (sym (e₁ .before .before .origin .ensures .0) ∙ c .if4 .taken ∙ e₁ .before .target .ensures .0)))
 
 returns-5 : tie.Need-returns-5
-returns-5 c = sym (later _ _ _ (differs-false (c .before .before .before .before .before .before .before .before .edition .ensures) (c .before .before .before .before .before .if1 .left)) ∙ later _ _ _ (or-second _ _ (sym (c .before .before .before .before .outside .ensures ∙ ap (outside 1 _) (c .before .before .before .before .before .before .before .origin .ensures .0)) ∙ c .before .before .before .if2 .left) (sym (c .before .before .outside2 .ensures ∙ ap (outside 1 _) (c .before .before .before .before .before .before .target .ensures .0)) ∙ c .before .if3 .left)) ∙ later _ _ _ (ne-eqb _ _ (λ e. c .if4 .left (c .before .before .before .before .before .before .before .origin .ensures .0 ∙ e ∙ sym (c .before .before .before .before .before .before .target .ensures .0)))) ∙ none-left _)
+returns-5 c =
+    let e₃ = c .before in
+    let e₂ = e₃ .before .before in
+    let e₁ = e₂ .before .before in
+    sym
+    (later _ _ _ (differs-false (e₁ .before .before .before .edition .ensures) (e₁ .if1 .left))
+    ∙ later _ _ _ (or-second _ _ (sym (e₂ .before .outside .ensures ∙ ap (outside 1 _) (e₁ .before .before .origin .ensures .0)) ∙ e₂ .if2 .left) (sym (e₃ .before .outside2 .ensures ∙ ap (outside 1 _) (e₁ .before .target .ensures .0)) ∙ e₃ .if3 .left))
+    ∙ later _ _ _ (ne-eqb _ _ (λ e. c .if4 .left (e₁ .before .before .origin .ensures .0 ∙ e ∙ sym (e₁ .before .target .ensures .0))))
+    ∙ none-left _)
 
 pub ends-spec : {M : Type 1} → statement M
 ends-spec =
