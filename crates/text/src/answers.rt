@@ -1,31 +1,27 @@
-// The text of a report and of a refusal.
+// The text of a report, of a refusal, and of the answer to some bytes.
 use crate::Text;
-use figure::Figure;
+use crate::bytes::words_of;
+use bounds::Answer;
+use bounds::Report;
+use bounds::unreliability;
 use model::Refusal;
 ghost use Rattle.text.specs.Text.{answer-text};
+ghost use Rattle.text.specs.Bytes.{words-of};
 ghost use Rattle.text.specs.Written.{Holds};
 ghost use Rattle.model.specs.Reading.{refused, granted};
 ghost use Rattle.model.specs.Refusal.{number, place};
+ghost use Rattle.bounds.specs.Answers.{report-of, answer-of};
+ghost use Rattle.tree.specs.Report.{answer};
 
-pub fn report_text(
-    lower: Figure,
-    upper: Figure,
-    cut: Figure,
-    deaths: u64,
-    cuts: u64,
-    steps: u64,
-) -> Text
-    ensures { λ r. ⌜ Holds (answer-text (granted (record { lower = lower; upper = upper; cut = cut; deaths = deaths; cuts = cuts; steps = steps }))) r ⌝ }
+fn report_text(r: Report) -> Text
+    ensures { λ t. ⌜ Holds (answer-text (granted (report-of r))) t ⌝ }
 {
+    let lower = r.lower;
+    let upper = r.upper;
+    let cut = r.cut;
     Text::empty()
         .with_figures(lower, upper, cut)
-        .with_counts(deaths, cuts, steps)
-}
-
-pub fn refusal_text(f: Refusal) -> Text
-    ensures { λ r. ⌜ Holds (answer-text (refused (number f) (place f))) r ⌝ }
-{
-    numbered(f.number(), f.place() as u64)
+        .with_counts(r.deaths, r.cuts, r.steps)
 }
 
 fn numbered(number: u64, place: u64) -> Text
@@ -35,4 +31,28 @@ fn numbered(number: u64, place: u64) -> Text
         .with_all(b"refused ")
         .with_refusal(number, place)
         .with(b'\n')
+}
+
+fn refusal_text(f: Refusal) -> Text
+    ensures { λ r. ⌜ Holds (answer-text (refused (number f) (place f))) r ⌝ }
+{
+    numbered(f.number(), f.place() as u64)
+}
+
+pub fn answer_text(a: Answer) -> Text
+    ensures { λ r. ⌜ Holds (answer-text (answer-of a)) r ⌝ }
+{
+    match a {
+        Answer::Report(r) => report_text(r),
+        Answer::Refused(f) => refusal_text(f),
+    }
+}
+
+// The text of the answer to the words of these bytes, however many.
+pub fn answered(bytes: &[u8], budget: u64) -> Text
+    ensures { λ r. ⌜ Holds (answer-text (answer (words-of (now (bytes .entry))) budget)) r ⌝ }
+{
+    let mut words = [0; 16006];
+    let n = words_of(bytes, &mut words);
+    answer_text(unreliability(&words[..n], budget))
 }

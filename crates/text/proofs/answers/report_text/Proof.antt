@@ -1,24 +1,12 @@
 -- `text::answers::report_text` meets its contract: the figures' lines and the counts', written from nothing. Assumes nothing.
 use borrow.Author.Needs.{needs}
-use Rattle.model.specs.Reading.{Answer, granted}
-use Rattle.tree.specs.Report.{Report}
+use Rattle.model.specs.Reading.{granted}
+use Rattle.bounds.specs.Answers.{report-of}
 use Rattle.text.specs.Text.{figure-lines, count-lines, answer-text}
 use Rattle.text.proofs.Pieces.{added-then, room-first, room-then, room-all, holds-all}
 use Rattle.text.proofs.Lengths.{answer-short}
 use Rattle.text.proofs.answers.report_text.Statement.{statement}
 use Rattle.text.proofs.answers.report_text.Tie as tie
-
-abbrev report : tie.Start → Report
-report c =
-    let a = c .args in
-    record {
-      lower = a .lower;
-      upper = a .upper;
-      cut = a .cut;
-      deaths = a .deaths;
-      cuts = a .cuts;
-      steps = a .steps;
-    }
 
 empty-requires : tie.Need-empty-requires
 empty-requires c κs = search needs
@@ -26,14 +14,14 @@ empty-requires c κs = search needs
 with-figures-requires : tie.Need-with-figures-requires
 unfolding answer-text
 with-figures-requires c κs =
-    let r = report (c .before) in
+    let r = report-of (c .before .before .before .before .args .r) in
     room-first (figure-lines (r .lower) (r .upper) (r .cut)) (count-lines (r .deaths) (r .cuts) (r .steps))
     (room-all (c .empty .ensures) (answer-short (granted r)))
 
 with-counts-requires : tie.Need-with-counts-requires
 unfolding answer-text
 with-counts-requires c κs =
-    let r = report (c .before .before) in
+    let r = report-of (c .before .before .before .before .before .args .r) in
     room-then (figure-lines (r .lower) (r .upper) (r .cut)) (count-lines (r .deaths) (r .cuts) (r .steps))
     (room-all (c .before .empty .ensures) (answer-short (granted r)))
     (c .with-figures .ensures)
