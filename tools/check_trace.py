@@ -4,10 +4,11 @@
     python3 tools/check_trace.py DOCUMENT     also each sentence of the trace, word for word, and that none of the document is left out
 
 In a cell of the trace's tables and in an item of the claims that begins "Says so" or "Would show it false", what stands in backticks is a file (it has
-a slash and a suffix) or a name, which belongs to the file before it in that cell or item. Of all else in the claims and the architecture only files are
-looked at, but for those with a word such as NAME in their path. Files are below crates/ or else below the repository's root. In the trace's column of
-vectors a name without a file is a model of reference/tests/data/models.txt or papers.txt, and one letter is one of document 01's models A to L, as
-the list in crates/tree/specs/Marked.antt has it. A cell that holds only a dash is empty. Ends with 0 if nothing is wrong, else with 1.
+a slash and a suffix, or ends in stdin or stdout) or a name, which belongs to the file before it in that cell or item. Of all else in the claims and the
+architecture only files are looked at, but for those with a word such as NAME in their path. Files are below crates/ or else below the repository's root.
+In the trace's column of vectors a name without a file is a model of reference/tests/data/models.txt or papers.txt, and one letter is one of document
+01's models A to L, as the list in crates/tree/specs/Marked.antt has it. A cell that holds only a dash is empty. Ends with 0 if nothing is wrong, else
+with 1.
 """
 import re
 import sys
@@ -18,7 +19,7 @@ TRACE, CLAIMS, ARCHITECTURE = "docs/TRACE.md", "docs/CLAIMS.md", "docs/ARCHITECT
 MODELS = ["reference/tests/data/models.txt", "reference/tests/data/papers.txt"]
 MARKED = "tree/specs/Marked.antt"
 EMPTY = "—"
-FILE = re.compile(r"[\w+.-]+(/[\w+.-]+)+\.\w+")
+FILE = re.compile(r"[\w+.-]+(/[\w+.-]+)*/([\w+.-]+\.\w+|stdin|stdout)")
 STANDS_FOR = re.compile(r"(^|/)\+?(NAME|MODULE|TYPE|FUNCTION|METHOD|SUBJECT|LABEL)[/.]")
 PART_OF_NAME = r"[\w\-′ᶠ·]"
 
