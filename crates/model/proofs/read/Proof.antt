@@ -28,7 +28,11 @@ enum-known-a : tie.Need-enum-known-a
 enum-known-a c = search needs
 
 list-requires : tie.Need-list-requires
-list-requires c κs = (rw (c .before .before .before .before .a .given .1) at (c .before .before .before .before .before .before .«open» .ensures), c .before .before .before .before .before .before .before .before .before .if1 .left)
+list-requires c κs =
+    let c₄ = c .before .before .before .before in
+    let c₆ = c₄ .before .before in
+    let c₉ = c₆ .before .before .before in
+    (rw (c₄ .a .given .1) at (c₆ .«open» .ensures), c₉ .if1 .left)
 
 enum-known-f-2 : tie.Need-enum-known-f-2
 enum-known-f-2 c = search needs
@@ -40,16 +44,22 @@ concluded-requires : tie.Need-concluded-requires
 concluded-requires c κs = rw (c .before .before .before .enum-told .given .1) at (c .before .before .before .before .before .list .ensures)
 
 returns-4 : tie.Need-returns-4
-returns-4 c = record {
-  words-unchanged = refl;
-  answer = record { reads = read-bad-word _ _ (called (c .before .before .before .before)) _ _ (rw (c .before .f .given .1) at (c .before .before .before .«open» .ensures)) };
-}
+returns-4 c =
+    let c₃ = c .before .before .before in
+    let c₄ = c₃ .before in
+    record {
+      words-unchanged = refl;
+      answer = record { reads = read-bad-word _ _ (called (c₄)) _ _ (rw (c .before .f .given .1) at (c₃ .«open» .ensures)) };
+    }
 
 returns-5 : tie.Need-returns-5
-returns-5 c = record {
-  words-unchanged = refl;
-  answer = record { reads = read-bad-word _ _ (called (c .before .before .before .before .before .before .before .before .before .before .before)) _ _ (rw (c .before .f2 .given .1) at (c .before .before .before .list .ensures)) };
-}
+returns-5 c =
+    let c₃ = c .before .before .before in
+    let c₁₁ = c₃ .before .before .before .before .before .before .before .before in
+    record {
+      words-unchanged = refl;
+      answer = record { reads = read-bad-word _ _ (called (c₁₁)) _ _ (rw (c .before .f2 .given .1) at (c₃ .list .ensures)) };
+    }
 
 returns-6 : tie.Need-returns-6
 returns-6 c =

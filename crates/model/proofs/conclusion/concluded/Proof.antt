@@ -22,7 +22,10 @@ returns-2 : tie.Need-returns-2
 returns-2 c = concludes-stuck _ _ _ _ _ (c .before .before .before .before .before .pre) _ (is-lowest (c .before .before .before)) (c .before .before .if1 .left) (c .if2 .taken)
 
 returns-3 : tie.Need-returns-3
-returns-3 c = concludes-accepted _ _ _ _ _ (c .before .before .before .before .before .pre) _ (is-lowest (c .before .before .before)) (c .before .before .if1 .left) (c .if2 .left)
+returns-3 c =
+    let c₃ = c .before .before .before in
+    let c₅ = c₃ .before .before in
+    concludes-accepted _ _ _ _ _ (c₅ .pre) _ (is-lowest (c₃)) (c .before .before .if1 .left) (c .if2 .left)
 
 pub concluded-spec : {M : Type 1} → statement M
 concluded-spec =

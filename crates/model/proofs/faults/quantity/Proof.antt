@@ -46,23 +46,29 @@ outside-requires c κs = search needs
 
 returns-4 : tie.Need-returns-4
 returns-4 c =
-    let e₃ = c .before .before .before in
+    let c₃ = c .before .before .before in
+    let e₃ = c₃ in
     let e₂ = e₃ .before .before in
     let e₁ = e₂ .before .before .before in
     sym
     (a-word _ _ _ (e₁ .if1 .left)
     ∙ later _ _ _ (differs-false (e₂ .before .kind .ensures) (e₂ .if2 .left))
-    ∙ here _ _ _ (or-second _ _ (le-ltb _ _ (rw (e₃ .before .scale .ensures) at (e₃ .if3 .left))) (sym (c .before .outside .ensures ∙ ap (outside _ 999999) (c .before .before .coefficient .ensures)) ∙ c .if4 .taken)))
+    ∙ here _ _ _
+    (or-second _ _ (le-ltb _ _ (rw (e₃ .before .scale .ensures) at (e₃ .if3 .left)))
+    (sym (c .before .outside .ensures ∙ ap (outside _ 999999) (c .before .before .coefficient .ensures)) ∙ c .if4 .taken)))
 
 returns-5 : tie.Need-returns-5
 returns-5 c =
-    let e₃ = c .before .before .before in
+    let c₃ = c .before .before .before in
+    let e₃ = c₃ in
     let e₂ = e₃ .before .before in
     let e₁ = e₂ .before .before .before in
     sym
     (a-word _ _ _ (e₁ .if1 .left)
     ∙ later _ _ _ (differs-false (e₂ .before .kind .ensures) (e₂ .if2 .left))
-    ∙ later _ _ _ (or-second _ _ (le-ltb _ _ (rw (e₃ .before .scale .ensures) at (e₃ .if3 .left))) (sym (c .before .outside .ensures ∙ ap (outside _ 999999) (c .before .before .coefficient .ensures)) ∙ c .if4 .left))
+    ∙ later _ _ _
+    (or-second _ _ (le-ltb _ _ (rw (e₃ .before .scale .ensures) at (e₃ .if3 .left)))
+    (sym (c .before .outside .ensures ∙ ap (outside _ 999999) (c .before .before .coefficient .ensures)) ∙ c .if4 .left))
     ∙ none-left _)
 
 pub quantity-spec : {M : Type 1} → statement M

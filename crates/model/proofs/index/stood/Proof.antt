@@ -22,20 +22,32 @@ abbrev μ-loop : tie.MeasureT-loop
 μ-loop words slots places s n w i₀ i = n - i
 
 -- in a turn: the place of the slot's word, the word, and that all is the slot's word and the rest
-place-is : (c : tie.After-wide2 Inv-loop μ-loop) → let a = c .before .before .before .before .before .before .before .args in c .wide2 .result ≡ slot-place (a .slots .now) (a .places .now) (a .s) (c .before .before .before .before .before .loop .i)
+place-is : (c : tie.After-wide2 Inv-loop μ-loop) → let a = c .before .before .before .before .before .before .before .args in
+    c .wide2 .result ≡ slot-place (a .slots .now) (a .places .now) (a .s) (c .before .before .before .before .before .loop .i)
 place-is c = c .wide2 .ensures .0 ∙ ap (λ (k : ℕ). getD (c .before .before .before .before .before .before .before .args .places .now) k 0) (c .before .before .wide .ensures .0)
 
 inside : (c : tie.After-wide2 Inv-loop μ-loop) → c .wide2 .result < length (c .before .before .before .before .before .before .before .args .words .now)
-inside c = rw (place-is c) (c .before .before .before .before .before .before .before .pre .inside (c .before .before .before .before .before .loop .i) (c .before .before .before .before .loop-test .taken))
+inside c =
+    let c₄ = c .before .before .before .before in
+    let c₅ = c₄ .before in
+    let c₇ = c₅ .before .before in
+    rw (place-is c) (c₇ .pre .inside (c₅ .loop .i) (c₄ .loop-test .taken))
 
 word-is : (c : tie.After-word-at Inv-loop μ-loop) → let a = c .before .before .before .before .before .before .before .before .before .args in
     c .word-at .result ≡ getD (a .words .now) (slot-place (a .slots .now) (a .places .now) (a .s) (c .before .before .before .before .before .before .before .loop .i)) 0
-word-is c = c .word-at .ensures ∙ part-word (c .before .before .before .before .before .before .before .before .before .args .words .now) (c .before .before .wide2 .result) ∙ ap (λ (k : ℕ). getD (c .before .before .before .before .before .before .before .before .before .args .words .now) k 0) (place-is (c .before .before))
+word-is c =
+    let c₉ = c .before .before .before .before .before .before .before .before .before in
+    c .word-at .ensures ∙ part-word (c₉ .args .words .now) (c .before .before .wide2 .result) ∙ ap (λ (k : ℕ). getD (c₉ .args .words .now) k 0) (place-is (c .before .before))
 
-turn : (c : tie.After-wide2 Inv-loop μ-loop) → let a = c .before .before .before .before .before .before .before .args in let i = c .before .before .before .before .before .loop .i in
+turn : (c : tie.After-wide2 Inv-loop μ-loop) → let a = c .before .before .before .before .before .before .before .args in
+    let i = c .before .before .before .before .before .loop .i in
     any (eqb (a .w)) (slot-words (a .words .now) (a .slots .now) (a .places .now) (a .s) (a .n))
     ≡ any (eqb (a .w)) (getD (a .words .now) (slot-place (a .slots .now) (a .places .now) (a .s) i) 0 ∷ along (λ k. getD (a .words .now) (slot-place (a .slots .now) (a .places .now) (a .s) k) 0) (a .n - (i + 1)) (i + 1))
-turn c = let a = c .before .before .before .before .before .before .before .args in sym (c .before .before .before .before .before .loop .inv .1) ∙ ap (any (eqb (a .w))) (along-turn _ (a .n) (c .before .before .before .before .before .loop .i) (c .before .before .before .before .loop-test .taken))
+turn c =
+    let c₄ = c .before .before .before .before in
+    let c₅ = c₄ .before in
+    let c₇ = c₅ .before .before in
+    let a = c₇ .args in sym (c₅ .loop .inv .1) ∙ ap (any (eqb (a .w))) (along-turn _ (a .n) (c₅ .loop .i) (c₄ .loop-test .taken))
 
 loop-holds : tie.Need-loop-holds Inv-loop μ-loop
 loop-holds c = (omega arith, ap (any (eqb (c .before .args .w))) (along-all _ (c .before .args .n)))

@@ -55,7 +55,10 @@ enum-known-f-2 : tie.Need-enum-known-f-2
 enum-known-f-2 c = search needs
 
 returns-2 : tie.Need-returns-2
-returns-2 c = sym (words-later _ _ _ _ (first-fine (c .before .before .before .before .before)) ∙ words-here _ _ _ _ _ _ (rw part-from at (sym (c .before .before .before .quantity .ensures) ∙ ap answer (c .before .f2 .given .1))))
+returns-2 c =
+    let c₃ = c .before .before .before in
+    let c₅ = c₃ .before .before in
+    sym (words-later _ _ _ _ (first-fine (c₅)) ∙ words-here _ _ _ _ _ _ (rw part-from at (sym (c₃ .quantity .ensures) ∙ ap answer (c .before .f2 .given .1))))
 
 enum-told-2 : tie.Need-enum-told-2
 enum-told-2 c = search needs
@@ -76,7 +79,13 @@ enum-known-f-3 : tie.Need-enum-known-f-3
 enum-known-f-3 c = search needs
 
 returns-3 : tie.Need-returns-3
-returns-3 c = sym (words-later _ _ _ _ (first-fine (c .before .before .before .before .before .before .before .before .before)) ∙ words-later _ _ _ _ (second-fine (c .before .before .before .before .before)) ∙ words-here _ _ _ _ _ _ (rw part-from at (sym (c .before .before .before .quantity2 .ensures) ∙ ap answer (c .before .f3 .given .1))))
+returns-3 c =
+    let c₃ = c .before .before .before in
+    let c₅ = c₃ .before .before in
+    let c₉ = c₅ .before .before .before .before in
+    sym (words-later _ _ _ _ (first-fine (c₉))
+    ∙ words-later _ _ _ _ (second-fine (c₅))
+    ∙ words-here _ _ _ _ _ _ (rw part-from at (sym (c₃ .quantity2 .ensures) ∙ ap answer (c .before .f3 .given .1))))
 
 enum-told-3 : tie.Need-enum-told-3
 enum-told-3 c = search needs
@@ -94,7 +103,13 @@ caps-requires : tie.Need-caps-requires
 caps-requires c κs = search needs
 
 returns-4 : tie.Need-returns-4
-returns-4 c = c .caps .ensures ∙ rw part-from (sym (words-later _ _ _ _ (first-fine (c .before .before .before .before .before .before .before .before .before .before)) ∙ words-later _ _ _ _ (second-fine (c .before .before .before .before .before .before)) ∙ words-later _ _ _ _ (third-fine (c .before .before)) ∙ words-last _ [] _ _))
+returns-4 c =
+    let c₆ = c .before .before .before .before .before .before in
+    let c₁₀ = c₆ .before .before .before .before in
+    c .caps .ensures ∙ rw part-from (sym (words-later _ _ _ _ (first-fine (c₁₀))
+    ∙ words-later _ _ _ _ (second-fine (c₆))
+    ∙ words-later _ _ _ _ (third-fine (c .before .before))
+    ∙ words-last _ [] _ _))
 
 pub verdict-spec : {M : Type 1} → statement M
 verdict-spec =

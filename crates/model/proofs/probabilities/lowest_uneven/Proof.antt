@@ -18,12 +18,16 @@ abbrev μ-loop : tie.MeasureT-loop
 μ-loop words states slots counts places s₀ s = states + 1 - s
 
 -- in a turn: the lowest from s on is s or a later one, and the code's test is the definition's
-turn : (c : tie.After-uneven Inv-loop μ-loop) (net : Net) → let a = c .before .before .before .before .before .before .args in let s = c .before .before .before .before .loop .s in
+turn : (c : tie.After-uneven Inv-loop μ-loop) (net : Net) → let a = c .before .before .before .before .before .before .args in
+    let s = c .before .before .before .before .loop .s in
     Through (a .words .now) (a .slots .now) (a .counts .now) (a .places .now) (a .states) net → lowest-uneven net (a .states) 1 ≡ lowest-uneven net (suc (a .states - s)) s
 turn c net through =
-    let s = c .before .before .before .before .loop .s in
-    let e : c .before .before .before .before .before .before .args .states + 1 - s ≡ suc (c .before .before .before .before .before .before .args .states - s) = omega (arith, c .before .before .before .loop-test .taken) in
-    sym (c .before .before .before .before .loop .inv .1 .1 net through) ∙ ap (λ (n : ℕ). lowest-uneven net n s) e
+    let c₃ = c .before .before .before in
+    let c₄ = c₃ .before in
+    let c₆ = c₄ .before .before in
+    let s = c₄ .loop .s in
+    let e : c₆ .args .states + 1 - s ≡ suc (c₆ .args .states - s) = omega (arith, c₃ .loop-test .taken) in
+    sym (c₄ .loop .inv .1 .1 net through) ∙ ap (λ (n : ℕ). lowest-uneven net n s) e
 
 is-uneven : (c : tie.After-uneven Inv-loop μ-loop) (net : Net) → let a = c .before .before .before .before .before .before .args in
     Through (a .words .now) (a .slots .now) (a .counts .now) (a .places .now) (a .states) net → uneven net (c .before .before .before .before .loop .s) ≡ c .uneven .result
@@ -59,14 +63,16 @@ loop-less : tie.Need-loop-less Inv-loop μ-loop
 loop-less c = omega arith
 
 loop-again : tie.Need-loop-again Inv-loop μ-loop
-loop-again c = (
-  omega arith,
-  (
-    omega arith,
-    λ net through.
-        shifted net (c .before .before .before .before .before .before .before .args .states) (c .before .before .before .before .before .loop .s) ∙ sym (turn (c .before) net through ∙ lowest-later net _ _ (is-uneven (c .before) net through ∙ c .if1 .left)),
-  ),
-)
+loop-again c =
+    let c₅ = c .before .before .before .before .before in
+    let c₇ = c₅ .before .before in (
+      omega arith,
+      (
+        omega arith,
+        λ net through.
+            shifted net (c₇ .args .states) (c₅ .loop .s) ∙ sym (turn (c .before) net through ∙ lowest-later net _ _ (is-uneven (c .before) net through ∙ c .if1 .left)),
+      ),
+    )
 
 returns-2 : tie.Need-returns-2 Inv-loop μ-loop
 returns-2 c = λ net through.

@@ -20,36 +20,58 @@ use Rattle.model.proofs.probabilities.uneven.Statement.{statement}
 use Rattle.model.proofs.probabilities.uneven.Tie as tie
 
 abbrev Inv-loop : tie.InvT-loop
-Inv-loop words slots places s n sum₀ any₀ i₀ sum any i = (i ≤ n) × Summed (slot-transitions words slots places s n) (along (λ k. transition-at (drop (slot-place slots places s k) words)) (n - i) i) i sum any
+Inv-loop words slots places s n sum₀ any₀ i₀ sum any i =
+    (i ≤ n)
+    × Summed (slot-transitions words slots places s n) (along (λ k. transition-at (drop (slot-place slots places s k) words)) (n - i) i) i sum any
 
 abbrev μ-loop : tie.MeasureT-loop
 μ-loop words slots places s n sum₀ any₀ i₀ sum any i = n - i
 
-place-is : (c : tie.After-wide2 Inv-loop μ-loop) → let a = c .before .before .before .before .before .before .before .args in c .wide2 .result ≡ slot-place (a .slots .now) (a .places .now) (a .s) (c .before .before .before .before .before .loop .i)
+place-is : (c : tie.After-wide2 Inv-loop μ-loop) → let a = c .before .before .before .before .before .before .before .args in
+    c .wide2 .result ≡ slot-place (a .slots .now) (a .places .now) (a .s) (c .before .before .before .before .before .loop .i)
 place-is c = c .wide2 .ensures .0 ∙ ap (λ (k : ℕ). getD (c .before .before .before .before .before .before .before .args .places .now) k 0) (c .before .before .wide .ensures .0)
 
 inside : (c : tie.After-wide2 Inv-loop μ-loop) → c .wide2 .result < length (c .before .before .before .before .before .before .before .args .words .now)
-inside c = rw (place-is c) (c .before .before .before .before .before .before .before .pre .inside (c .before .before .before .before .before .loop .i) (c .before .before .before .before .loop-test .taken))
+inside c =
+    let c₄ = c .before .before .before .before in
+    let c₅ = c₄ .before in
+    let c₇ = c₅ .before .before in
+    rw (place-is c) (c₇ .pre .inside (c₅ .loop .i) (c₄ .loop-test .taken))
 
 -- whether the slot's word is a fast transition's, which has three words behind it
-fast-is : (c : tie.After-is-fast Inv-loop μ-loop) → c .is-fast .result ≡ eqb (kind (getD (c .before .before .before .before .before .before .before .before .before .before .args .words .now) (c .before .before .before .wide2 .result) 0)) 7
+fast-is : (c : tie.After-is-fast Inv-loop μ-loop) → let a = c .before .before .before .before .before .before .before .before .before .before .args in
+    c .is-fast .result ≡ eqb (kind (getD (a .words .now) (c .before .before .before .wide2 .result) 0)) 7
 fast-is c =
+    let c₃ = c .before .before .before in
+    let c₁₀ = c₃ .before .before .before .before .before .before .before in
     c .is-fast .ensures
-    ∙ ap (λ (w : ℕ). eqb (kind w) 7) (c .before .word-at .ensures ∙ part-word (c .before .before .before .before .before .before .before .before .before .before .args .words .now) (c .before .before .before .wide2 .result))
+    ∙ ap (λ (w : ℕ). eqb (kind w) 7) (c .before .word-at .ensures ∙ part-word (c₁₀ .args .words .now) (c₃ .wide2 .result))
 
-is-seven : (c : tie.Then1 Inv-loop μ-loop) → kind (getD (c .before .before .before .before .before .before .before .before .before .before .before .args .words .now) (c .before .before .before .before .wide2 .result) 0) ≡ 7
+is-seven : (c : tie.Then1 Inv-loop μ-loop) → let a = c .before .before .before .before .before .before .before .before .before .before .before .args in
+    kind (getD (a .words .now) (c .before .before .before .before .wide2 .result) 0) ≡ 7
 is-seven c = eqb-true _ 7 (sym (fast-is (c .before)) ∙ c .if1 .taken)
 
-whole : (c : tie.Then1 Inv-loop μ-loop) → c .before .before .before .before .wide2 .result + 3 < length (c .before .before .before .before .before .before .before .before .before .before .before .args .words .now)
+whole : (c : tie.Then1 Inv-loop μ-loop) → let a = c .before .before .before .before .before .before .before .before .before .before .before .args in
+    c .before .before .before .before .wide2 .result + 3 < length (a .words .now)
 whole c =
-    let at = c .before .before .before .before in
-    rw (place-is at) (c .before .before .before .before .before .before .before .before .before .before .before .pre .whole (c .before .before .before .before .before .before .before .before .before .loop .i) (c .before .before .before .before .before .before .before .before .loop-test .taken) (rw (place-is at) at (is-seven c)))
+    let c₄ = c .before .before .before .before in
+    let c₈ = c₄ .before .before .before .before in
+    let c₉ = c₈ .before in
+    let c₁₁ = c₉ .before .before in
+    let at = c₄ in
+    rw (place-is at) (c₁₁ .pre .whole (c₉ .loop .i) (c₈ .loop-test .taken) (rw (place-is at) at (is-seven c)))
 
 -- what is still to come in a turn is the slot's exit and the rest
-turn : (c : tie.After-wide2 Inv-loop μ-loop) → let a = c .before .before .before .before .before .before .before .args in let l = c .before .before .before .before .before .loop in
+turn : (c : tie.After-wide2 Inv-loop μ-loop) → let a = c .before .before .before .before .before .before .before .args in
+    let l = c .before .before .before .before .before .loop in
     Summed (slot-transitions (a .words .now) (a .slots .now) (a .places .now) (a .s) (a .n))
-    (transition-at (drop (c .wide2 .result) (a .words .now)) ∷ along (λ k. transition-at (drop (slot-place (a .slots .now) (a .places .now) (a .s) k) (a .words .now))) (a .n - (l .i + 1)) (l .i + 1)) (l .i) (l .sum) (l .any)
-turn c = rw (place-is c) (rw (along-turn _ (c .before .before .before .before .before .before .before .args .n) (c .before .before .before .before .before .loop .i) (c .before .before .before .before .loop-test .taken)) at (c .before .before .before .before .before .loop .inv .1))
+    (transition-at (drop (c .wide2 .result) (a .words .now))
+    ∷ along (λ k. transition-at (drop (slot-place (a .slots .now) (a .places .now) (a .s) k) (a .words .now))) (a .n - (l .i + 1)) (l .i + 1)) (l .i) (l .sum) (l .any)
+turn c =
+    let c₄ = c .before .before .before .before in
+    let c₅ = c₄ .before in
+    let c₇ = c₅ .before .before in
+    rw (place-is c) (rw (along-turn _ (c₇ .args .n) (c₅ .loop .i) (c₄ .loop-test .taken)) at (c₅ .loop .inv .1))
 
 -- after the last turn
 ended : (c : tie.After-loop Inv-loop μ-loop) → let a = c .before .before .before .args in let l = c .before .loop in
@@ -122,7 +144,10 @@ units-requires : tie.Need-units-requires Inv-loop μ-loop
 units-requires c κs = search needs
 
 add-sum : tie.Need-add-sum Inv-loop μ-loop
-add-sum c = omega (arith, c .before .before .before .before .before .before .before .before .before .before .before .loop .inv .1 .high, c .before .before .before .before .before .before .before .before .before .before .before .before .before .pre .few, c .units .ensures .1)
+add-sum c =
+    let c₁₁ = c .before .before .before .before .before .before .before .before .before .before .before in
+    let c₁₃ = c₁₁ .before .before in
+    omega (arith, c₁₁ .loop .inv .1 .high, c₁₃ .pre .few, c .units .ensures .1)
 
 add-i : tie.Need-add-i Inv-loop μ-loop
 add-i c = omega arith

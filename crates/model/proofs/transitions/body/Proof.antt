@@ -50,10 +50,12 @@ quantity-requires-2 c κs = search needs
 enum-known-f : tie.Need-enum-known-f
 enum-known-f c = search needs
 
-first-fine : (c : tie.After-enum-told) → word-answer (quantity-faults 8 20 1) (c .before .before .before .before .before .before .args .at) (drop (c .before .before .before .before .before .before .args .at) (c .before .before .before .before .before .before .args .words .now)) ≡ granted tt
+first-fine : (c : tie.After-enum-told) → let a = c .before .before .before .before .before .before .args in
+    word-answer (quantity-faults 8 20 1) (a .at) (drop (a .at) (a .words .now)) ≡ granted tt
 first-fine c = rw part-from at (sym (c .before .before .quantity2 .ensures) ∙ ap answer (c .enum-told .given .1))
 
-second-fine : (c : tie.After-enum-told2) → word-answer (quantity-faults 9 20 0) (suc (c .before .before .before .before .before .before .before .before .before .before .args .at)) (drop (suc (c .before .before .before .before .before .before .before .before .before .before .args .at)) (c .before .before .before .before .before .before .before .before .before .before .args .words .now)) ≡ granted tt
+second-fine : (c : tie.After-enum-told2) → let a = c .before .before .before .before .before .before .before .before .before .before .args in
+    word-answer (quantity-faults 9 20 0) (suc (a .at)) (drop (suc (a .at)) (a .words .now)) ≡ granted tt
 second-fine c = rw (part-from, add-one) at (sym (c .before .before .quantity3 .ensures) ∙ ap answer (c .enum-told2 .given .1))
 
 inside : (ws : List ℕ) (i : ℕ) → 0 < length (drop i ws) → i + 1 ≤ length ws
@@ -63,7 +65,11 @@ inside-next : (ws : List ℕ) (i : ℕ) → 0 < length (drop (suc i) ws) → i +
 inside-next ws i h = omega (arith, length-drop (suc i) ws)
 
 returns-2 : tie.Need-returns-2
-returns-2 c = rw (not-false (c .before .before .before .before .before .before .before .args .fast) (c .before .before .before .before .before .if1 .left)) (sym (words-here _ _ _ _ _ _ (rw part-from at (sym (c .before .before .before .quantity2 .ensures) ∙ ap answer (c .before .f .given .1)))))
+returns-2 c =
+    let c₃ = c .before .before .before in
+    let c₅ = c₃ .before .before in
+    let c₇ = c₅ .before .before in
+    rw (not-false (c₇ .args .fast) (c₅ .if1 .left)) (sym (words-here _ _ _ _ _ _ (rw part-from at (sym (c₃ .quantity2 .ensures) ∙ ap answer (c .before .f .given .1)))))
 
 enum-told : tie.Need-enum-told
 enum-told c = search needs
@@ -75,10 +81,14 @@ mul-quantity-3 : tie.Need-mul-quantity-3
 mul-quantity-3 c = search needs
 
 sub-quantity-3 : tie.Need-sub-quantity-3
-sub-quantity-3 c = inside (c .before .before .before .before .before .before .args .words .now) (c .before .before .before .before .before .before .args .at) (word-there _ _ _ (first-fine c))
+sub-quantity-3 c =
+    let c₆ = c .before .before .before .before .before .before in
+    inside (c₆ .args .words .now) (c₆ .args .at) (word-there _ _ _ (first-fine c))
 
 part-quantity-start-3 : tie.Need-part-quantity-start-3
-part-quantity-start-3 c = inside (c .before .before .before .before .before .before .args .words .now) (c .before .before .before .before .before .before .args .at) (word-there _ _ _ (first-fine c))
+part-quantity-start-3 c =
+    let c₆ = c .before .before .before .before .before .before in
+    inside (c₆ .args .words .now) (c₆ .args .at) (word-there _ _ _ (first-fine c))
 
 part-quantity-end-3 : tie.Need-part-quantity-end-3
 part-quantity-end-3 c = search needs
@@ -90,7 +100,13 @@ enum-known-f-2 : tie.Need-enum-known-f-2
 enum-known-f-2 c = search needs
 
 returns-3 : tie.Need-returns-3
-returns-3 c = rw (not-false (c .before .before .before .before .before .before .before .before .before .before .before .args .fast) (c .before .before .before .before .before .before .before .before .before .if1 .left)) (sym (words-later _ _ _ _ (first-fine (c .before .before .before .before .before)) ∙ words-here _ _ _ _ _ _ (rw (part-from, add-one) at (sym (c .before .before .before .quantity3 .ensures) ∙ ap answer (c .before .f2 .given .1)))))
+returns-3 c =
+    let c₃ = c .before .before .before in
+    let c₅ = c₃ .before .before in
+    let c₉ = c₅ .before .before .before .before in
+    let c₁₁ = c₉ .before .before in
+    rw (not-false (c₁₁ .args .fast) (c₉ .if1 .left)) (sym (words-later _ _ _ _ (first-fine (c₅))
+    ∙ words-here _ _ _ _ _ _ (rw (part-from, add-one) at (sym (c₃ .quantity3 .ensures) ∙ ap answer (c .before .f2 .given .1)))))
 
 enum-told-2 : tie.Need-enum-told-2
 enum-told-2 c = search needs
@@ -102,10 +118,14 @@ mul-quantity-4 : tie.Need-mul-quantity-4
 mul-quantity-4 c = search needs
 
 sub-quantity-4 : tie.Need-sub-quantity-4
-sub-quantity-4 c = inside-next (c .before .before .before .before .before .before .before .before .before .before .args .words .now) (c .before .before .before .before .before .before .before .before .before .before .args .at) (word-there _ _ _ (second-fine c))
+sub-quantity-4 c =
+    let c₁₀ = c .before .before .before .before .before .before .before .before .before .before in
+    inside-next (c₁₀ .args .words .now) (c₁₀ .args .at) (word-there _ _ _ (second-fine c))
 
 part-quantity-start-4 : tie.Need-part-quantity-start-4
-part-quantity-start-4 c = inside-next (c .before .before .before .before .before .before .before .before .before .before .args .words .now) (c .before .before .before .before .before .before .before .before .before .before .args .at) (word-there _ _ _ (second-fine c))
+part-quantity-start-4 c =
+    let c₁₀ = c .before .before .before .before .before .before .before .before .before .before in
+    inside-next (c₁₀ .args .words .now) (c₁₀ .args .at) (word-there _ _ _ (second-fine c))
 
 part-quantity-end-4 : tie.Need-part-quantity-end-4
 part-quantity-end-4 c = search needs
@@ -114,7 +134,13 @@ quantity-requires-4 : tie.Need-quantity-requires-4
 quantity-requires-4 c κs = search needs
 
 returns-4 : tie.Need-returns-4
-returns-4 c = rw (not-false (c .before .before .before .before .before .before .before .before .before .before .before .before .args .fast) (c .before .before .before .before .before .before .before .before .before .before .if1 .left)) (c .quantity4 .ensures ∙ rw (part-from, add-two) (sym (words-later _ _ _ _ (first-fine (c .before .before .before .before .before .before)) ∙ words-later _ _ _ _ (second-fine (c .before .before)) ∙ words-last _ [] _ _)))
+returns-4 c =
+    let c₆ = c .before .before .before .before .before .before in
+    let c₁₀ = c₆ .before .before .before .before in
+    let c₁₂ = c₁₀ .before .before in
+    rw (not-false (c₁₂ .args .fast) (c₁₀ .if1 .left)) (c .quantity4 .ensures ∙ rw (part-from, add-two) (sym (words-later _ _ _ _ (first-fine (c₆))
+    ∙ words-later _ _ _ _ (second-fine (c .before .before))
+    ∙ words-last _ [] _ _)))
 
 pub body-spec : {M : Type 1} → statement M
 body-spec =

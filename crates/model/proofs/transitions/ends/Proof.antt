@@ -38,7 +38,9 @@ returns-3 c =
     let e₁ = e₂ .before .before in
     sym
     (later _ _ _ (differs-false (e₁ .before .before .before .edition .ensures) (e₁ .if1 .left))
-    ∙ here _ _ _ (or-second _ _ (sym (e₂ .before .outside .ensures ∙ ap (outside 1 _) (e₁ .before .before .origin .ensures .0)) ∙ e₂ .if2 .left) (sym (c .before .outside2 .ensures ∙ ap (outside 1 _) (e₁ .before .target .ensures .0)) ∙ c .if3 .taken)))
+    ∙ here _ _ _
+    (or-second _ _ (sym (e₂ .before .outside .ensures ∙ ap (outside 1 _) (e₁ .before .before .origin .ensures .0)) ∙ e₂ .if2 .left)
+    (sym (c .before .outside2 .ensures ∙ ap (outside 1 _) (e₁ .before .target .ensures .0)) ∙ c .if3 .taken)))
 
 returns-4 : tie.Need-returns-4
 returns-4 c =
@@ -47,7 +49,9 @@ returns-4 c =
     let e₁ = e₂ .before .before in
     sym
     (later _ _ _ (differs-false (e₁ .before .before .before .edition .ensures) (e₁ .if1 .left))
-    ∙ later _ _ _ (or-second _ _ (sym (e₂ .before .outside .ensures ∙ ap (outside 1 _) (e₁ .before .before .origin .ensures .0)) ∙ e₂ .if2 .left) (sym (e₃ .before .outside2 .ensures ∙ ap (outside 1 _) (e₁ .before .target .ensures .0)) ∙ e₃ .if3 .left))
+    ∙ later _ _ _
+    (or-second _ _ (sym (e₂ .before .outside .ensures ∙ ap (outside 1 _) (e₁ .before .before .origin .ensures .0)) ∙ e₂ .if2 .left)
+    (sym (e₃ .before .outside2 .ensures ∙ ap (outside 1 _) (e₁ .before .target .ensures .0)) ∙ e₃ .if3 .left))
     ∙ here _ _ _ (eq-eqb _ _ (sym (e₁ .before .before .origin .ensures .0) ∙ c .if4 .taken ∙ e₁ .before .target .ensures .0)))
 
 returns-5 : tie.Need-returns-5
@@ -57,7 +61,9 @@ returns-5 c =
     let e₁ = e₂ .before .before in
     sym
     (later _ _ _ (differs-false (e₁ .before .before .before .edition .ensures) (e₁ .if1 .left))
-    ∙ later _ _ _ (or-second _ _ (sym (e₂ .before .outside .ensures ∙ ap (outside 1 _) (e₁ .before .before .origin .ensures .0)) ∙ e₂ .if2 .left) (sym (e₃ .before .outside2 .ensures ∙ ap (outside 1 _) (e₁ .before .target .ensures .0)) ∙ e₃ .if3 .left))
+    ∙ later _ _ _
+    (or-second _ _ (sym (e₂ .before .outside .ensures ∙ ap (outside 1 _) (e₁ .before .before .origin .ensures .0)) ∙ e₂ .if2 .left)
+    (sym (e₃ .before .outside2 .ensures ∙ ap (outside 1 _) (e₁ .before .target .ensures .0)) ∙ e₃ .if3 .left))
     ∙ later _ _ _ (ne-eqb _ _ (λ e. c .if4 .left (e₁ .before .before .origin .ensures .0 ∙ e ∙ sym (e₁ .before .target .ensures .0))))
     ∙ none-left _)
 

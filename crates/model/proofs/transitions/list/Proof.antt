@@ -17,8 +17,9 @@ abbrev μ-loop : tie.MeasureT-loop
 clear-requires : tie.Need-clear-requires Inv-loop μ-loop
 clear-requires c κs = search needs
 
-stepped : (c : tie.After-known-told Inv-loop μ-loop) → let a = c .before .before .before .before .before .before .before .before .before .before .before .before .before .args in let j = c .before .behind .given .0 .0 in let last = c .before .before .before .next .last in
-    (c .before .before .before .before .before .before .before .loop .at < j) × Begun (a .a) (a .words .now) j (c .before .before .before .before .before .before .before .loop .known + 1) (last .1 .1 .1 .1 .0) (last .1 .1 .1 .1 .1 .0) (last .1 .1 .1 .1 .1 .1 .0)
+stepped : (c : tie.After-known-told Inv-loop μ-loop) → let j = c .before .behind .given .0 .0 in
+    let last = c .before .before .before .next .last in let l = c .before .before .before .before .before .before .before .loop in let a = c .before .before .before .before .before .before .before .before .before .before .before .before .before .args in
+    (l .at < j) × Begun (a .a) (a .words .now) j (l .known + 1) (last .1 .1 .1 .1 .0) (last .1 .1 .1 .1 .1 .0) (last .1 .1 .1 .1 .1 .1 .0)
 stepped c = rw (c .before .behind .given .1) at (c .before .before .before .next .ensures)
 
 loop-holds : tie.Need-loop-holds Inv-loop μ-loop
@@ -31,7 +32,9 @@ enum-known-behind : tie.Need-enum-known-behind Inv-loop μ-loop
 enum-known-behind c = search needs
 
 add-known : tie.Need-add-known Inv-loop μ-loop
-add-known c = omega (arith, c .before .before .before .before .before .before .before .loop .inv .few, c .before .before .before .before .before .before .before .loop .inv .far .number)
+add-known c =
+    let c₇ = c .before .before .before .before .before .before .before in
+    omega (arith, c₇ .loop .inv .few, c₇ .loop .inv .far .number)
 
 loop-less : tie.Need-loop-less Inv-loop μ-loop
 loop-less c = let h = stepped c in omega (arith, h .0, h .1 .far .inside)

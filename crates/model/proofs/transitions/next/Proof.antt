@@ -34,13 +34,23 @@ kind-requires : tie.Need-kind-requires
 kind-requires c κs = search needs
 
 transition-requires : tie.Need-transition-requires
-transition-requires c κs = record { begun = c .before .before .before .before .before .before .before .before .before .pre .0; short = c .before .before .before .before .before .before .before .before .before .pre .1; inside = c .before .before .before .before .before .before .before .if1 .left; kind-is = inl (sym (kind-is (c .before .before .before .before)) ∙ c .before .before .before .if2 .taken) }
+transition-requires c κs =
+    let c₃ = c .before .before .before in
+    let c₄ = c₃ .before in
+    let c₇ = c₄ .before .before .before in
+    let c₉ = c₇ .before .before in
+    record { begun = c₉ .pre .0; short = c₉ .pre .1; inside = c₇ .if1 .left; kind-is = inl (sym (kind-is (c₄)) ∙ c₃ .if2 .taken) }
 
 returns-2 : tie.Need-returns-2
 returns-2 c = search needs
 
 transition-requires-2 : tie.Need-transition-requires-2
-transition-requires-2 c κs = record { begun = c .before .before .before .before .before .before .before .before .before .before .pre .0; short = c .before .before .before .before .before .before .before .before .before .before .pre .1; inside = c .before .before .before .before .before .before .before .before .if1 .left; kind-is = inr (sym (kind-is (c .before .before .before .before .before)) ∙ c .before .before .before .if3 .taken) }
+transition-requires-2 c κs =
+    let c₃ = c .before .before .before in
+    let c₅ = c₃ .before .before in
+    let c₈ = c₅ .before .before .before in
+    let c₁₀ = c₈ .before .before in
+    record { begun = c₁₀ .pre .0; short = c₁₀ .pre .1; inside = c₈ .if1 .left; kind-is = inr (sym (kind-is (c₅)) ∙ c₃ .if3 .taken) }
 
 returns-3 : tie.Need-returns-3
 returns-3 c = search needs
@@ -49,12 +59,18 @@ end-requires : tie.Need-end-requires
 end-requires c κs = search needs
 
 returns-4 : tie.Need-returns-4
-returns-4 c = turn-end _ _ _ _ _ _ _ (c .before .before .before .before .before .before .before .before .before .pre .0) (sym (kind-is (c .before .before .before .before)) ∙ c .before .if4 .taken) (c .end .result) (c .end .ensures)
+returns-4 c =
+    let c₄ = c .before .before .before .before in
+    let c₉ = c₄ .before .before .before .before .before in
+    turn-end _ _ _ _ _ _ _ (c₉ .pre .0) (sym (kind-is (c₄)) ∙ c .before .if4 .taken) (c .end .result) (c .end .ensures)
 
 returns-5 : tie.Need-returns-5
 returns-5 c =
-    let is = kind-is (c .before .before .before) in
-    turn-other _ _ _ _ _ _ _ (c .before .before .before .before .before .before .before .before .pre .0) (c .before .before .before .before .before .before .if1 .left) (λ e. c .before .before .if2 .left (is ∙ e)) (λ e. c .before .if3 .left (is ∙ e)) (λ e. c .if4 .left (is ∙ e))
+    let c₃ = c .before .before .before in
+    let c₆ = c₃ .before .before .before in
+    let c₈ = c₆ .before .before in
+    let is = kind-is (c₃) in
+    turn-other _ _ _ _ _ _ _ (c₈ .pre .0) (c₆ .if1 .left) (λ e. c .before .before .if2 .left (is ∙ e)) (λ e. c .before .if3 .left (is ∙ e)) (λ e. c .if4 .left (is ∙ e))
 
 pub next-spec : {M : Type 1} → statement M
 next-spec =

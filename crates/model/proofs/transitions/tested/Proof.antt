@@ -22,17 +22,22 @@ word-small : (c : tie.After-word-at) → let a = c .before .before .before .args
 word-small c = omega (arith, c .before .before .shared-slice-known .given (c .before .before .before .args .at))
 
 -- tests 4, 6 and 7 found nothing
-fields-fine : (c : tie.After-enum-told) → let a = c .before .before .before .before .before .before .args in first-fault (field-faults (a .a .states) (getD (a .words .now) (a .at) 0)) (a .at) ≡ granted tt
+fields-fine : (c : tie.After-enum-told) → let a = c .before .before .before .before .before .before .args in
+    first-fault (field-faults (a .a .states) (getD (a .words .now) (a .at) 0)) (a .at) ≡ granted tt
 fields-fine c = rw (word-is (c .before .before .before)) at (sym (c .before .before .ends .ensures) ∙ ap answer (c .enum-told .given .1))
 
 from : (c : tie.After-enum-told) → let a = c .before .before .before .before .before .before .args in from-field (getD (a .words .now) (a .at) 0) ≤ 1000
 from c = from-small _ _ _ _ _ _ _ (c .before .before .before .before .before .before .pre) (word-small (c .before .before .before)) (fields-fine c)
 
-origin-is : (c : tie.After-origin) → let a = c .before .before .before .before .before .before .before .args in c .origin .result ≡ from-field (getD (a .words .now) (a .at) 0)
+origin-is : (c : tie.After-origin) → let a = c .before .before .before .before .before .before .before .args in
+    c .origin .result ≡ from-field (getD (a .words .now) (a .at) 0)
 origin-is c = c .origin .ensures .0 ∙ ap from-field (word-is (c .before .before .before .before))
 
-count-is : (c : tie.After-small) → let a = c .before .before .before .before .before .before .before .before .before .args in c .small .result ≡ getD (a .counts .now) (from-field (getD (a .words .now) (a .at) 0)) 0
-count-is c = c .small .ensures .0 ∙ ap (λ (k : ℕ). getD (c .before .before .before .before .before .before .before .before .before .args .counts .now) k 0) (origin-is (c .before .before))
+count-is : (c : tie.After-small) → let a = c .before .before .before .before .before .before .before .before .before .args in
+    c .small .result ≡ getD (a .counts .now) (from-field (getD (a .words .now) (a .at) 0)) 0
+count-is c =
+    let c₉ = c .before .before .before .before .before .before .before .before .before in
+    c .small .ensures .0 ∙ ap (λ (k : ℕ). getD (c₉ .args .counts .now) k 0) (origin-is (c .before .before))
 
 mul-word-at : tie.Need-mul-word-at
 mul-word-at c = search needs
@@ -56,7 +61,11 @@ enum-known-f : tie.Need-enum-known-f
 enum-known-f c = search needs
 
 returns : tie.Need-returns
-returns c = fields-stop _ _ _ _ _ _ _ (c .before .before .before .before .before .before .before .pre) _ _ (rw (word-is (c .before .before .before .before)) at (sym (c .before .before .before .ends .ensures) ∙ ap answer (c .before .f .given .1)))
+returns c =
+    let c₃ = c .before .before .before in
+    let c₄ = c₃ .before in
+    let c₇ = c₄ .before .before .before in
+    fields-stop _ _ _ _ _ _ _ (c₇ .pre) _ _ (rw (word-is (c₄)) at (sym (c₃ .ends .ensures) ∙ ap answer (c .before .f .given .1)))
 
 enum-told : tie.Need-enum-told
 enum-told c = search needs
@@ -71,16 +80,25 @@ small-requires : tie.Need-small-requires
 small-requires c κs = search needs
 
 room-requires : tie.Need-room-requires
-room-requires c κs = rw (word-is (c .before .before .before .before .before .before), count-is c) (leads _ _ _ _ _ _ (c .before .before .before .before .before .before .before .before .before .pre .begun) _ (from (c .before .before .before)))
+room-requires c κs =
+    let c₃ = c .before .before .before in
+    let c₆ = c₃ .before .before .before in
+    let c₉ = c₆ .before .before .before in
+    rw (word-is (c₆), count-is c) (leads _ _ _ _ _ _ (c₉ .pre .begun) _ (from (c₃)))
 
 enum-known-f-2 : tie.Need-enum-known-f-2
 enum-known-f-2 c = search needs
 
 returns-2 : tie.Need-returns-2
 returns-2 c =
-    let told = c .before .before .before .before .before .before .before in
-    room-stop _ _ _ _ _ _ _ (c .before .before .before .before .before .before .before .before .before .before .before .before .before .pre) (word-small (told .before .before .before)) (fields-fine told) _ _
-    (rw (count-is (c .before .before .before .before), word-is (c .before .before .before .before .before .before .before .before .before .before)) at (sym (c .before .before .before .room .ensures) ∙ ap answer (c .before .f2 .given .1)))
+    let c₃ = c .before .before .before in
+    let c₄ = c₃ .before in
+    let c₇ = c₄ .before .before .before in
+    let c₁₀ = c₇ .before .before .before in
+    let c₁₃ = c₁₀ .before .before .before in
+    let told = c₇ in
+    room-stop _ _ _ _ _ _ _ (c₁₃ .pre) (word-small (told .before .before .before)) (fields-fine told) _ _
+    (rw (count-is (c₄), word-is (c₁₀)) at (sym (c₃ .room .ensures) ∙ ap answer (c .before .f2 .given .1)))
 
 enum-told-2 : tie.Need-enum-told-2
 enum-told-2 c = search needs
@@ -96,12 +114,17 @@ body-requires c κs = search needs
 
 returns-3 : tie.Need-returns-3
 returns-3 c =
-    let told = c .before .before .before .before .before .before .before .before in
-    let a = c .before .before .before .before .before .before .before .before .before .before .before .before .before .before .args in
-    tested-is _ _ _ _ _ _ _ (c .before .before .before .before .before .before .before .before .before .before .before .before .before .before .pre) (word-small (told .before .before .before)) (fields-fine told)
-    (rw (count-is (c .before .before .before .before .before), word-is (c .before .before .before .before .before .before .before .before .before .before .before)) at (sym (c .before .before .before .before .room .ensures) ∙ ap answer (c .before .before .enum-told2 .given .1))) (c .body .result)
+    let c₄ = c .before .before .before .before in
+    let c₅ = c₄ .before in
+    let c₈ = c₅ .before .before .before in
+    let c₁₁ = c₈ .before .before .before in
+    let c₁₄ = c₁₁ .before .before .before in
+    let told = c₈ in
+    let a = c₁₄ .args in
+    tested-is _ _ _ _ _ _ _ (c₁₄ .pre) (word-small (told .before .before .before)) (fields-fine told)
+    (rw (count-is (c₅), word-is (c₁₁)) at (sym (c₄ .room .ensures) ∙ ap answer (c .before .before .enum-told2 .given .1))) (c .body .result)
     (c .body .ensures
-    ∙ ap (λ (b : Bool). words-answer (body-faults b) (a .at + 1) (a .words .now)) (c .before .is-fast .ensures ∙ ap (λ (w : ℕ). eqb (kind w) 7) (word-is (c .before .before .before .before .before .before .before .before .before .before .before))))
+    ∙ ap (λ (b : Bool). words-answer (body-faults b) (a .at + 1) (a .words .now)) (c .before .is-fast .ensures ∙ ap (λ (w : ℕ). eqb (kind w) 7) (word-is (c₁₁))))
 
 pub tested-spec : {M : Type 1} → statement M
 tested-spec =

@@ -10,20 +10,27 @@ use Rattle.model.proofs.Steps.{part-word}
 use Rattle.model.proofs.transitions.transition.Statement.{statement}
 use Rattle.model.proofs.transitions.transition.Tie as tie
 
-passes : (c : tie.After-enum-told) → let a = c .before .before .before .before .before .before .before .args in Passes (a .a) (a .words .now) (a .at) (a .known) (a .slots .now) (a .counts .now) (a .places .now)
+passes : (c : tie.After-enum-told) → let a = c .before .before .before .before .before .before .before .args in
+    Passes (a .a) (a .words .now) (a .at) (a .known) (a .slots .now) (a .counts .now) (a .places .now)
 passes c = rw (c .enum-told .given .1) at (c .before .before .tested .ensures)
 
-word-is : (c : tie.After-word-at) → let a = c .before .before .before .before .before .before .before .before .before .args in c .word-at .result ≡ getD (a .words .now) (a .at) 0
+word-is : (c : tie.After-word-at) → let a = c .before .before .before .before .before .before .before .before .before .args in
+    c .word-at .result ≡ getD (a .words .now) (a .at) 0
 word-is c = let a = c .before .before .before .before .before .before .before .before .before .args in c .word-at .ensures ∙ part-word (a .words .now) (a .at)
 
-origin-is : (c : tie.After-origin) → let a = c .before .before .before .before .before .before .before .before .before .before .args in c .origin .result ≡ from-field (getD (a .words .now) (a .at) 0)
+origin-is : (c : tie.After-origin) → let a = c .before .before .before .before .before .before .before .before .before .before .args in
+    c .origin .result ≡ from-field (getD (a .words .now) (a .at) 0)
 origin-is c = c .origin .ensures .0 ∙ ap from-field (word-is (c .before))
 
 -- the index has one more transition
 entered : (c : tie.After-enter) → let a = c .before .before .before .before .before .before .before .before .before .before .before .before .before .before .args in
-    Begun (a .a) (a .words .now) (a .at + words-taken (c .before .before .before .before .before .word-at .result)) (a .known + 1) (c .enter .last .1 .1 .1 .0) (c .enter .last .1 .1 .1 .1 .0) (c .enter .last .1 .1 .1 .1 .1 .0)
+    Begun (a .a) (a .words .now) (a .at + words-taken (c .before .before .before .before .before .word-at .result)) (a .known + 1)
+    (c .enter .last .1 .1 .1 .0) (c .enter .last .1 .1 .1 .1 .0) (c .enter .last .1 .1 .1 .1 .1 .0)
 entered c =
-    rw (c .enter .ensures .0, c .enter .ensures .1 .0, c .enter .ensures .1 .1, origin-is (c .before .before .before .before), word-is (c .before .before .before .before .before)) ((passes (c .before .before .before .before .before .before .before)) .next)
+    let c₄ = c .before .before .before .before in
+    let c₅ = c₄ .before in
+    let c₇ = c₅ .before .before in
+    rw (c .enter .ensures .0, c .enter .ensures .1 .0, c .enter .ensures .1 .1, origin-is (c₄), word-is (c₅)) ((passes (c₇)) .next)
 
 tested-requires : tie.Need-tested-requires
 tested-requires c κs = search needs
@@ -57,8 +64,11 @@ origin-requires c κs = search needs
 
 enter-requires : tie.Need-enter-requires
 enter-requires c κs =
-    let p = passes (c .before .before .before .before .before .before) in
-    rw (origin-is (c .before .before .before)) (p .state, p .few, omega (arith, c .before .before .before .before .before .before .before .before .before .before .before .before .before .pre .short, c .before .before .before .before .before .before .before .before .before .before .before .before .before .pre .inside), p .exits-few)
+    let c₃ = c .before .before .before in
+    let c₆ = c₃ .before .before .before in
+    let c₁₃ = c₆ .before .before .before .before .before .before .before in
+    let p = passes (c₆) in
+    rw (origin-is (c₃)) (p .state, p .few, omega (arith, c₁₃ .pre .short, c₁₃ .pre .inside), p .exits-few)
 
 is-fast-requires : tie.Need-is-fast-requires
 is-fast-requires c κs = search needs
