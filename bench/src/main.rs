@@ -1,0 +1,158 @@
+//! Times the proved library, the same algorithm in plain Rust and the independent implementation on the same models, in one run, and prints
+//! docs/BENCHMARK.md.
+
+mod models;
+mod plain;
+
+use models::Case;
+use std::fs;
+use std::hint::black_box;
+use std::time::{Duration, Instant};
+
+const BUDGET: u64 = 1_000_000;
+/// Each program runs a model at least so often, and all three together at least so long.
+const LEAST_RUNS: usize = 5;
+const LEAST_TIME: Duration = Duration::from_millis(1_500);
+
+/// The least time that each program took, in seconds, and the steps that were walked.
+struct Timing {
+    steps: u64,
+    proved: f64,
+    plain: f64,
+    independent: f64,
+}
+
+fn proved(words: &[u32]) -> String {
+    match bounds::assess(words, BUDGET) {
+        Ok(report) => report.to_string(),
+        Err(refusal) => refusal.to_string(),
+    }
+}
+
+/// The plain program's answer, as the report program prints it.
+fn shown(answer: Result<plain::Report, plain::Refusal>) -> String {
+    let figure = |f: plain::Figure| bounds::Figure { digits: f.digits, power: f.power };
+    match answer {
+        Ok(r) => bounds::Report {
+            lower: figure(r.lower),
+            upper: figure(r.upper),
+            cut: figure(r.cut),
+            deaths: r.deaths,
+            cuts: r.cuts,
+            steps: r.steps,
+        }
+        .to_string(),
+        Err(refusal) => format!("refused {} at {}", refusal.number, refusal.place),
+    }
+}
+
+fn independent(words: &[u32]) -> String {
+    reference::assess(words, BUDGET).to_string().trim_end().to_string()
+}
+
+/// Keeps an answer from being left out as unused.
+fn keep<T>(answer: T) {
+    black_box(answer);
+}
+
+fn seconds(run: impl Fn()) -> f64 {
+    let start = Instant::now();
+    run();
+    start.elapsed().as_secs_f64()
+}
+
+/// Runs the three in turn, so that whatever disturbs the machine disturbs all of them.
+fn time(case: &Case) -> Timing {
+    let words = case.words.as_slice();
+    let answer = proved(words);
+    assert_eq!(answer, shown(plain::assess(words, BUDGET)), "{}", case.name);
+    assert_eq!(answer, independent(words), "{}", case.name);
+    let steps = bounds::assess(words, BUDGET).map_or(0, |report| report.steps);
+    let mut timing = Timing { steps, proved: f64::MAX, plain: f64::MAX, independent: f64::MAX };
+    let start = Instant::now();
+    let mut runs = 0;
+    while runs < LEAST_RUNS || start.elapsed() < LEAST_TIME {
+        let words = black_box(words);
+        timing.proved = timing.proved.min(seconds(|| keep(bounds::assess(words, BUDGET))));
+        timing.plain = timing.plain.min(seconds(|| keep(plain::assess(words, BUDGET))));
+        timing.independent =
+            timing.independent.min(seconds(|| keep(reference::assess(words, BUDGET))));
+        runs += 1;
+    }
+    timing
+}
+
+/// The processor's name and how many there are.
+fn machine() -> String {
+    let about = fs::read_to_string("/proc/cpuinfo").unwrap_or_default();
+    let name = about.lines().find_map(|line| line.strip_prefix("model name"));
+    let name =
+        name.map_or("an unknown processor", |rest| rest.trim_start_matches(['\t', ' ', ':']));
+    let count = std::thread::available_parallelism().map_or(1, usize::from);
+    format!("{name}, {count} processors")
+}
+
+fn with_commas(n: u64) -> String {
+    let digits = n.to_string();
+    let mut out = String::new();
+    for (at, digit) in digits.chars().enumerate() {
+        if at > 0 && (digits.len() - at) % 3 == 0 {
+            out.push(',');
+        }
+        out.push(digit);
+    }
+    out
+}
+
+fn per_step(cases: &[Case]) {
+    println!("| model | steps | proved, ns a step | plain Rust, ns a step | independent, ns a step | proved / plain | proved / independent |");
+    println!("| --- | ---: | ---: | ---: | ---: | ---: | ---: |");
+    for case in cases {
+        let t = time(case);
+        let ns = |seconds: f64| seconds * 1e9 / t.steps as f64;
+        println!(
+            "| {} | {} | {:.1} | {:.1} | {:.1} | {:.2} | {:.2} |",
+            case.name,
+            with_commas(t.steps),
+            ns(t.proved),
+            ns(t.plain),
+            ns(t.independent),
+            t.proved / t.plain,
+            t.proved / t.independent
+        );
+    }
+}
+
+fn per_call(cases: &[Case]) {
+    println!("| model | words | proved, µs | plain Rust, µs | independent, µs | proved / plain | proved / independent |");
+    println!("| --- | ---: | ---: | ---: | ---: | ---: | ---: |");
+    for case in cases {
+        let t = time(case);
+        println!(
+            "| {} | {} | {:.0} | {:.0} | {:.0} | {:.2} | {:.2} |",
+            case.name,
+            with_commas(case.words.len() as u64),
+            t.proved * 1e6,
+            t.plain * 1e6,
+            t.independent * 1e6,
+            t.proved / t.plain,
+            t.proved / t.independent
+        );
+    }
+}
+
+fn main() {
+    println!("# Benchmark\n");
+    println!(
+        "Written by `cargo run --release --offline --manifest-path bench/Cargo.toml`, on {}.\n",
+        machine()
+    );
+    println!("Three programs on the same models, in turn and in one run, all built for release: the proved library (`crates/`, through the Rust wrapper), the same algorithm in plain Rust (`bench/src/plain`: arrays changed in place, no proofs) and the independent implementation (`reference/`). Each number is the least of at least {LEAST_RUNS} runs. All three gave the same answer to every model.\n");
+    println!("## Trees of about 1,000,000 steps\n");
+    per_step(&models::trees());
+    println!("\n## Reading\n");
+    per_call(&models::tables());
+    println!("\n## How the cost grows with the steps\n");
+    println!("The time of a whole call, reading and tables included, over its steps.\n");
+    per_step(&models::growing());
+}

@@ -1,0 +1,156 @@
+//! The cut tree.
+
+use super::figure::{Figure, DOWN, UP};
+use super::tables::{Step, Tables};
+use super::words::Model;
+use super::{Refusal, Report};
+
+const GRAINS: u64 = 1_000_000;
+
+struct Walk<'a> {
+    model: &'a Model,
+    tables: &'a Tables,
+    budget: u64,
+    entered: [u8; 1001],
+    path: [u16; 24],
+    lower: Figure,
+    died: Figure,
+    cut: Figure,
+    deaths: u64,
+    cuts: u64,
+    steps: u64,
+}
+
+/// What the deaths share that leave one state by a slow exit: none where the grains fill the mission time.
+type Shared = Option<SharedFactors>;
+
+#[derive(Clone, Copy)]
+struct SharedFactors {
+    time: Figure,
+    product: Figure,
+    last: Figure,
+}
+
+pub fn walk(model: &Model, tables: &Tables, budget: u64) -> Result<Report, Refusal> {
+    let zero = Figure::ZERO;
+    let mut walk = Walk {
+        model,
+        tables,
+        budget,
+        entered: [0; 1001],
+        path: [0; 24],
+        lower: zero,
+        died: zero,
+        cut: zero,
+        deaths: 0,
+        cuts: 0,
+        steps: 0,
+    };
+    walk.entered[model.start] = 1;
+    if !walk.every_exit(model.start, Figure::ONE, 0, 0) {
+        return Err(Refusal { number: 13, place: 0 });
+    }
+    Ok(Report {
+        lower: walk.lower.to_nine::<DOWN>(),
+        upper: walk.died.sum_to_nine(walk.cut),
+        cut: walk.cut.to_nine::<UP>(),
+        deaths: walk.deaths,
+        cuts: walk.cuts,
+        steps: walk.steps,
+    })
+}
+
+impl Walk<'_> {
+    /// Walks every exit of a state that a path of `len` steps has reached, `ones` of them of class 1; false where the budget is spent.
+    fn every_exit(&mut self, state: usize, upper: Figure, ones: u64, len: usize) -> bool {
+        let model = self.model;
+        let mut shared: Option<Shared> = None;
+        for &exit in &model.exits[state] {
+            if self.steps == self.budget {
+                return false;
+            }
+            self.steps += 1;
+            let step = self.tables.steps[exit as usize];
+            let (to, ones) = (step.to as usize, ones + u64::from(step.class == 1));
+            let upper = self.further(&step, upper, ones);
+            let before = self.entered[to];
+            if model.exits[to].is_empty() {
+                let lower = self.lower_of(&step, ones, len, &mut shared);
+                self.lower = self.lower.total::<DOWN>(lower);
+                self.died = self.died.total::<UP>(upper);
+                self.deaths += 1;
+            } else if before >= model.entries
+                || len + 1 == model.steps
+                || upper.at_or_below(model.level)
+            {
+                self.cut = self.cut.total::<UP>(upper);
+                self.cuts += 1;
+            } else {
+                self.entered[to] = before + 1;
+                self.path[len] = exit;
+                if !self.every_exit(to, upper, ones, len + 1) {
+                    return false;
+                }
+                self.entered[to] = before;
+            }
+        }
+        true
+    }
+
+    /// U one step further; the step is the `ones`-th of class 1 if it is of class 1.
+    fn further(&self, step: &Step, upper: Figure, ones: u64) -> Figure {
+        let upper = upper.times::<UP>(step.share);
+        match step.class {
+            1 => upper.times::<UP>(self.model.time).over::<UP>(Figure::whole(ones)),
+            2 => upper,
+            _ => upper.times::<UP>(self.tables.states[step.from as usize].mean),
+        }
+    }
+
+    /// The lower of a death path whose last step is `step`, after the first `len` steps of the path.
+    fn lower_of(&self, step: &Step, ones: u64, len: usize, kept: &mut Option<Shared>) -> Figure {
+        let shared = match (*kept, step.class) {
+            (Some(shared), 1 | 3) => shared,
+            (None, 1 | 3) => *kept.insert(self.shared(step, ones, len)),
+            _ => self.shared(step, ones, len),
+        };
+        let Some(shared) = shared else {
+            return Figure::ZERO;
+        };
+        let product = self.factor(step, shared.product, shared.time, ones);
+        product.times::<DOWN>(shared.last)
+    }
+
+    /// The product with one step more, `time` being down(t).
+    fn factor(&self, step: &Step, product: Figure, time: Figure, ones: u64) -> Figure {
+        if step.class != 1 {
+            return product.times::<DOWN>(step.factor);
+        }
+        product.times::<DOWN>(step.share).times::<DOWN>(time).over::<DOWN>(Figure::whole(ones))
+    }
+
+    fn shared(&self, last: &Step, ones: u64, len: usize) -> Shared {
+        let path = || self.path[..len].iter().map(|&exit| &self.tables.steps[exit as usize]);
+        let (mut grains, mut rates) = (0, Figure::ZERO);
+        for step in path().chain([last]) {
+            if step.class == 1 {
+                rates = rates.plus::<UP>(self.tables.states[step.from as usize].rate);
+            } else {
+                grains += u64::from(step.grains);
+            }
+        }
+        if grains >= GRAINS {
+            return None;
+        }
+        let rest = Figure::whole(GRAINS - grains);
+        let time = self.model.time.times::<DOWN>(rest).times_ten(-6);
+        let above = self.model.time.times::<UP>(rest).times_ten(-6);
+        let loss = above.times::<UP>(rates).over::<UP>(Figure::whole(ones + 1));
+        let (mut product, mut k) = (Figure::ONE, 0);
+        for step in path() {
+            k += u64::from(step.class == 1);
+            product = self.factor(step, product, time, k);
+        }
+        Some(SharedFactors { time, product, last: Figure::ONE.minus(loss) })
+    }
+}

@@ -1,0 +1,86 @@
+// The library for C and for what calls C: numbers and slices of numbers in, numbers out. `include/bounds.h` declares these functions.
+ghost use mathlib.Core.Path.{_≡_};
+ghost use mathlib.Core.List.{[], _∷_};
+ghost use lib.ListN.{take};
+ghost use Rattle.model.specs.Reading.{granted};
+ghost use Rattle.tree.specs.Report as definition;
+ghost use Rattle.bounds.specs.Answers.{report-of};
+ghost use Rattle.text.specs.Bytes.{Spelled};
+ghost use Rattle.embed.specs.Exports.{Assessed, Texted, numbers-of, powers-of};
+use bounds::Answer;
+use bounds::Report;
+use bounds::unreliability;
+use text::answers::answer_text;
+use text::bytes::words_of;
+
+fn put_powers(lower: i32, upper: i32, cut: i32, powers: &mut [i32; 3])
+    ensures { λ _. ⌜ now (powers .exit) ≡ (lower ∷ upper ∷ cut ∷ []) ⌝ }
+{
+    *powers = [lower, upper, cut];
+}
+
+// The numbers of a report.
+fn put_report(r: Report, values: &mut [u64; 7], powers: &mut [i32; 3])
+    ensures { λ _. ⌜ now (values .exit) ≡ numbers-of (definition.values (granted (report-of r))) ⌝ }
+    ensures { λ _. ⌜ now (powers .exit) ≡ powers-of (definition.values (granted (report-of r))) ⌝ }
+{
+    let lower = r.lower;
+    let upper = r.upper;
+    let cut = r.cut;
+    *values = [
+        0,
+        lower.digits,
+        upper.digits,
+        cut.digits,
+        r.deaths,
+        r.cuts,
+        r.steps,
+    ];
+    put_powers(lower.power, upper.power, cut.power, powers);
+}
+
+// The answer to the words and the budget: 0 for a report, or the refusal's number. Fills `values` with a refusal's place, the digits of the lower,
+// the upper and the cut figure and the counts of deaths, cuts and steps, and `powers` with the figures' powers of ten; all but the place are zero
+// in a refusal.
+#[no_mangle]
+pub extern "C" fn bounds_assess(
+    words: &[u32],
+    budget: u64,
+    values: &mut [u64; 7],
+    powers: &mut [i32; 3],
+) -> u64
+    ensures { λ r. ⌜ Assessed (now (words .entry)) (now (words .exit)) budget r (now (values .exit)) (now (powers .exit)) ⌝ }
+{
+    let a = unreliability(words, budget);
+    match a {
+        Answer::Refused(f) => {
+            *values = [f.place() as u64, 0, 0, 0, 0, 0, 0];
+            *powers = [0, 0, 0];
+            f.number()
+        }
+        Answer::Report(r) => {
+            put_report(r, values, powers);
+            0
+        }
+    }
+}
+
+// The answer to the words and the budget as the report program prints it: the first bytes of `text`, as many as the number that is handed back.
+#[no_mangle]
+pub extern "C" fn bounds_text(words: &[u32], budget: u64, text: &mut [u8; 256]) -> usize
+    ensures { λ r. ⌜ Texted (now (words .entry)) (now (words .exit)) budget (now (text .exit)) r ⌝ }
+{
+    let t = answer_text(unreliability(words, budget));
+    let bytes = t.bytes;
+    *text = bytes;
+    t.len
+}
+
+// The words of some bytes, at the start of `words`, and how many there are: of more than 64,024 bytes those of the first 64,024, which are already
+// more words than a model may have.
+#[no_mangle]
+pub extern "C" fn bounds_words(bytes: &[u8], words: &mut [u32; 16006]) -> usize
+    ensures { λ r. ⌜ Spelled (take 64024 (now (bytes .entry))) (now (words .exit)) r ⌝ }
+{
+    words_of(bytes, words)
+}

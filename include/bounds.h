@@ -1,0 +1,265 @@
+/*
+ * Bounds on the probability that a system fails, from a model's words: the proved library for C and C++.
+ *
+ * Build the archive by `rt staticlib embed` and link target/staticlib/libembed.a. The functions under "Exported" are proved: each promises its
+ * result as an equation with the definitions of document 01, for all words and all budgets. The inline functions of this header are not proved;
+ * tests/c tries them.
+ *
+ * Who owns what. Every buffer is the caller's. The library keeps no pointer after a call, asks for no memory, makes no system call and uses no
+ * floating point. Words and bytes that are lent by a pointer to const are only read. A pointer is never null, also where the count beside it
+ * is 0, and is aligned for its type; a buffer that is written overlaps no other. Nothing else is asked of a caller: any words, any count that
+ * the memory holds and any budget have an answer.
+ *
+ * Re-entrancy. There is no global and no thread-local state. Any number of threads may call at once, each with its own buffers, and may lend
+ * the same words.
+ *
+ * Stack. A call needs at most BOUNDS_STACK bytes of stack, measured (tests/c/stack.c), not proved.
+ *
+ * Time. A call takes at most a fixed time for each word and each step, so the budget bounds it (docs/BENCHMARK.md).
+ */
+#ifndef BOUNDS_H
+#define BOUNDS_H
+
+#include <float.h>
+#include <stddef.h>
+#include <stdint.h>
+
+#ifdef __cplusplus
+extern "C" {
+#endif
+
+/* ---- Sizes */
+
+#define BOUNDS_MOST_WORDS 16005      /* a model has at most so many words */
+#define BOUNDS_MOST_BUDGET 1000000   /* a budget is from 1 to this */
+#define BOUNDS_WORDS_SIZE 16006      /* the words that bounds_words writes */
+#define BOUNDS_TEXT_SIZE 256         /* the bytes that bounds_text writes */
+#define BOUNDS_STACK 524288          /* the stack that a call needs at most, in bytes */
+
+/*
+ * ---- Refusals
+ *
+ * A refusal has a number and a place. For 3 to 9 the place is that of a word, counted from 0 (where the words ran out, it is their number);
+ * for 10 and 11 it is a state; for 1, 2 and 13 it is 0. bounds_sentence has a sentence for each that a tool can show.
+ */
+enum bounds_refusal {
+    BOUNDS_REPORTED = 0, /* no refusal */
+
+    /* By the caller. */
+    BOUNDS_TOO_MANY_WORDS = 1,
+    BOUNDS_BUDGET_OUT_OF_RANGE = 2,
+    BOUNDS_OVER_BUDGET = 13,
+
+    /* By whoever wrote the words. */
+    BOUNDS_WRONG_KIND = 3,
+    BOUNDS_BIT_SET = 4,
+    BOUNDS_QUANTITY_OUT_OF_RANGE = 5,
+    BOUNDS_FIELD_OUT_OF_RANGE = 6,
+
+    /* By whoever drew the model. */
+    BOUNDS_SELF_TRANSITION = 7,
+    BOUNDS_DUPLICATE_TRANSITION = 8,
+    BOUNDS_TOO_MANY_TRANSITIONS = 9,
+    BOUNDS_PROBABILITIES_NOT_ONE = 10,
+    BOUNDS_START_WITHOUT_EXITS = 11
+};
+
+/*
+ * ---- Figures
+ *
+ * A figure is digits times ten to a power: 999500000 and -12 are 9.99500000E-4. It is zero (digits 0, power 0), or its digits are a whole number
+ * from 100,000,000 to 999,999,999. The upper figure is never below the exact upper sum and the lower figure never above the exact lower sum;
+ * how near they are, the accuracy rule of document 01 says.
+ */
+
+/* What bounds_assess writes: where each number stands in `values` and in `powers`. */
+enum bounds_value {
+    BOUNDS_PLACE,        /* a refusal's place; 0 in a report */
+    BOUNDS_LOWER_DIGITS, /* the figures and counts of a report; all 0 in a refusal */
+    BOUNDS_UPPER_DIGITS,
+    BOUNDS_CUT_DIGITS, /* the cut paths' part of the upper figure */
+    BOUNDS_DEATHS,
+    BOUNDS_CUTS,
+    BOUNDS_STEPS,
+    BOUNDS_VALUES /* how many there are */
+};
+
+enum bounds_power {
+    BOUNDS_LOWER_POWER, /* all 0 in a refusal */
+    BOUNDS_UPPER_POWER,
+    BOUNDS_CUT_POWER,
+    BOUNDS_POWERS
+};
+
+/* ---- Exported */
+
+/*
+ * The answer to `count` words under a budget of steps. Returns 0 for a report and otherwise the refusal's number. Writes every number of
+ * `values` and `powers`, whatever they held, in a refusal too: there the place, and zeros for all the rest.
+ */
+uint64_t bounds_assess(const uint32_t *words, size_t count, uint64_t budget, uint64_t values[BOUNDS_VALUES], int32_t powers[BOUNDS_POWERS]);
+
+/*
+ * The same answer as the report program prints it: six lines for a report, one for a refusal, each ended by a newline, in ASCII. Returns their
+ * length, at most BOUNDS_TEXT_SIZE; they are the first bytes of `text`, with no zero byte behind them: what the rest of `text` then holds is
+ * free. A refusal has its line there.
+ */
+size_t bounds_text(const uint32_t *words, size_t count, uint64_t budget, uint8_t text[BOUNDS_TEXT_SIZE]);
+
+/*
+ * The words of a model that is held as bytes, four bytes a word, least significant first; left-over bytes are one more word, of no kind.
+ * Returns how many there are, at most BOUNDS_WORDS_SIZE; they are the first of `words`, and what the rest then holds is free. Of more than
+ * 64,024 bytes it takes the first 64,024: these are already more words than a model may have, and bounds_assess refuses them (1). It refuses
+ * nothing itself.
+ */
+size_t bounds_words(const uint8_t *bytes, size_t count, uint32_t words[BOUNDS_WORDS_SIZE]);
+
+#ifdef __cplusplus
+}
+#endif
+
+/* ---- Inline: an answer as one value */
+
+typedef struct {
+    uint64_t digits;
+    int32_t power;
+} bounds_figure;
+
+typedef struct {
+    uint64_t refusal; /* 0 in a report, else a number of enum bounds_refusal */
+    uint64_t place;
+    bounds_figure lower;
+    bounds_figure upper;
+    bounds_figure cut;
+    uint64_t deaths;
+    uint64_t cuts;
+    uint64_t steps;
+} bounds_answer;
+
+static inline bounds_answer bounds_ask(const uint32_t *words, size_t count, uint64_t budget)
+{
+    uint64_t values[BOUNDS_VALUES];
+    int32_t powers[BOUNDS_POWERS];
+    bounds_answer answer;
+    answer.refusal = bounds_assess(words, count, budget, values, powers);
+    answer.place = values[BOUNDS_PLACE];
+    answer.lower.digits = values[BOUNDS_LOWER_DIGITS];
+    answer.lower.power = powers[BOUNDS_LOWER_POWER];
+    answer.upper.digits = values[BOUNDS_UPPER_DIGITS];
+    answer.upper.power = powers[BOUNDS_UPPER_POWER];
+    answer.cut.digits = values[BOUNDS_CUT_DIGITS];
+    answer.cut.power = powers[BOUNDS_CUT_POWER];
+    answer.deaths = values[BOUNDS_DEATHS];
+    answer.cuts = values[BOUNDS_CUTS];
+    answer.steps = values[BOUNDS_STEPS];
+    return answer;
+}
+
+/* A sentence on a refusal that a tool can show, before or after its place; an empty one for a number that is no refusal. */
+static inline const char *bounds_sentence(uint64_t refusal)
+{
+    switch (refusal) {
+    case BOUNDS_TOO_MANY_WORDS:
+        return "The model has more than 16,005 words.";
+    case BOUNDS_BUDGET_OUT_OF_RANGE:
+        return "The budget is not from 1 to 1,000,000.";
+    case BOUNDS_OVER_BUDGET:
+        return "The cut tree has more steps than the budget.";
+    case BOUNDS_WRONG_KIND:
+        return "The word at this place is of another kind than its place calls for, is missing, or follows the end.";
+    case BOUNDS_BIT_SET:
+        return "The word at this place has a bit set that must be zero.";
+    case BOUNDS_QUANTITY_OUT_OF_RANGE:
+        return "The quantity at this place has its scale or its coefficient out of range.";
+    case BOUNDS_FIELD_OUT_OF_RANGE:
+        return "The word at this place has an edition, number of states, start, limit or state number out of range.";
+    case BOUNDS_SELF_TRANSITION:
+        return "The transition at this place leads from a state to itself.";
+    case BOUNDS_DUPLICATE_TRANSITION:
+        return "The transition at this place stood earlier, with the same kind and between the same two states.";
+    case BOUNDS_TOO_MANY_TRANSITIONS:
+        return "The transition at this place is the 17th exit of its state or the 4,001st transition.";
+    case BOUNDS_PROBABILITIES_NOT_ONE:
+        return "The probabilities of this state's fast exits do not sum to exactly 1.";
+    case BOUNDS_START_WITHOUT_EXITS:
+        return "The start state has no exits.";
+    default:
+        return "";
+    }
+}
+
+/*
+ * ---- Inline: a figure as a double
+ *
+ * Most figures are no double, so one that is converted by pow, strtod or a cast is rounded to the nearest, and that may lie on the wrong side:
+ * an upper figure turned into a smaller number is no upper bound any more. bounds_double_above is the least double that is not below the figure
+ * (for upper figures and for the cut part), bounds_double_below the greatest that is not above it (for lower figures). Both work on whole numbers
+ * and round once. A figure above DBL_MAX is infinity above and DBL_MAX below; one below the least positive double is that double above and 0
+ * below. What a program then computes from the doubles is rounded again: keep to the figures where the side matters.
+ */
+static inline double bounds_double(uint64_t digits, int32_t power, int above)
+{
+    enum { LIMBS = 48 };
+    uint32_t limb[LIMBS] = { 0 }; /* the figure times 2^fraction, 32 bits each, the least first */
+    int fraction, top, kept, scale, i, j;
+    int lost = 0; /* whether anything was dropped */
+    uint64_t whole = 0;
+    double x;
+
+    if (digits == 0)
+        return 0.0;
+    /* Beyond these powers the figure is above every double, or below every one that is not 0. */
+    power = power > 309 ? 309 : power < -400 ? -400 : power;
+    i = power < 0 ? (64 - power * 10 / 3) / 32 + 1 : 0; /* enough for 64 bits after the divisions */
+    fraction = 32 * i;
+    limb[i] = (uint32_t)digits;
+    limb[i + 1] = (uint32_t)(digits >> 32);
+    for (i = 0; i < power; i++) {
+        uint64_t carry = 0;
+        for (j = 0; j < LIMBS; j++) {
+            carry += (uint64_t)limb[j] * 10;
+            limb[j] = (uint32_t)carry;
+            carry >>= 32;
+        }
+    }
+    for (i = 0; i > power; i--) {
+        uint64_t rest = 0;
+        for (j = LIMBS - 1; j >= 0; j--) {
+            rest = rest << 32 | limb[j];
+            limb[j] = (uint32_t)(rest / 10);
+            rest %= 10;
+        }
+        lost |= rest != 0;
+    }
+    for (top = 32 * LIMBS - 1; (limb[top / 32] >> (top % 32) & 1) == 0; top--)
+        ;
+    /* A double has 53 bits, and none below 2^-1074. */
+    kept = top - fraction + 1075;
+    kept = kept > 53 ? 53 : kept;
+    for (i = top; i >= 0; i--) {
+        int bit = limb[i / 32] >> (i % 32) & 1;
+        if (top - i < kept)
+            whole = 2 * whole + (uint64_t)bit;
+        else
+            lost |= bit;
+    }
+    scale = kept <= 0 ? -1074 : (top >= kept ? top - kept + 1 : 0) - fraction;
+    x = (double)(above && lost ? whole + 1 : whole);
+    for (; scale > 0; scale--)
+        x *= 2.0;
+    for (; scale < 0; scale++)
+        x *= 0.5;
+    return !above && x > DBL_MAX ? DBL_MAX : x;
+}
+
+static inline double bounds_double_above(bounds_figure figure)
+{
+    return bounds_double(figure.digits, figure.power, 1);
+}
+
+static inline double bounds_double_below(bounds_figure figure)
+{
+    return bounds_double(figure.digits, figure.power, 0);
+}
+
+#endif

@@ -1,0 +1,223 @@
+/*
+ * Calls every exported function and compares it with expected answers and with the report program:
+ *
+ *     calls REPORT-PROGRAM FILE..
+ *
+ * The files are those of models.h. The report program, whose budget is 1,000,000, is run where that is the model's budget.
+ */
+#define _POSIX_C_SOURCE 200809L
+#include "models.h"
+#include <inttypes.h>
+#include <pthread.h>
+#include <unistd.h>
+
+enum { GUARD = 16 };
+
+/* ---- The answer as text, from numbers */
+
+static int put_figure(char *to, size_t room, const char *label, bounds_figure f)
+{
+    if (f.digits == 0)
+        return snprintf(to, room, "%s 0\n", label);
+    return snprintf(to, room, "%s %" PRIu64 ".%08" PRIu64 "E%" PRId64 "\n", label, f.digits / 100000000, f.digits % 100000000, (int64_t)f.power + 8);
+}
+
+static void put_answer(char *to, size_t room, bounds_answer a)
+{
+    if (a.refusal != BOUNDS_REPORTED) {
+        snprintf(to, room, "refused %" PRIu64 " at %" PRIu64 "\n", a.refusal, a.place);
+        return;
+    }
+    int n = put_figure(to, room, "lower", a.lower);
+    n += put_figure(to + n, room - (size_t)n, "upper", a.upper);
+    n += put_figure(to + n, room - (size_t)n, "cut", a.cut);
+    snprintf(to + n, room - (size_t)n, "deaths %" PRIu64 "\ncuts %" PRIu64 "\nsteps %" PRIu64 "\n", a.deaths, a.cuts, a.steps);
+}
+
+/* ---- One model by each function */
+
+/* bounds_words on the bytes; the words behind its buffer stay as they were. */
+static size_t words_of(const model *m, uint32_t *words)
+{
+    static uint32_t lent[BOUNDS_WORDS_SIZE + GUARD];
+    memset(lent, 0xA5, sizeof lent);
+    size_t count = bounds_words(m->bytes, m->length, lent);
+    if (count != (m->length + 3) / 4)
+        fail("the number of words", m->name);
+    for (size_t i = 0; i < count; i++) {
+        const uint8_t *b = m->bytes + 4 * i;
+        uint32_t word = (uint32_t)b[0] | (uint32_t)b[1] << 8 | (uint32_t)b[2] << 16 | (uint32_t)b[3] << 24;
+        if (lent[i] != (4 * i + 4 <= m->length ? word : 0))
+            fail("a word", m->name);
+    }
+    for (size_t i = 0; i < GUARD; i++)
+        if (lent[BOUNDS_WORDS_SIZE + i] != 0xA5A5A5A5)
+            fail("bounds_words wrote past its buffer", m->name);
+    memcpy(words, lent, count * sizeof *words);
+    return count;
+}
+
+/* bounds_assess on buffers that hold something else before; numbers behind them stay as they were. */
+static void check_assess(const model *m, const uint32_t *words, size_t count)
+{
+    uint64_t values[BOUNDS_VALUES + GUARD];
+    int32_t powers[BOUNDS_POWERS + GUARD];
+    memset(values, 0xA5, sizeof values);
+    memset(powers, 0xA5, sizeof powers);
+    uint64_t refusal = bounds_assess(words, count, m->budget, values, powers);
+    for (int i = 0; i < GUARD; i++)
+        if (values[BOUNDS_VALUES + i] != 0xA5A5A5A5A5A5A5A5 || (uint32_t)powers[BOUNDS_POWERS + i] != 0xA5A5A5A5)
+            fail("bounds_assess wrote past a buffer", m->name);
+    bounds_answer a = bounds_ask(words, count, m->budget);
+    char text[512];
+    put_answer(text, sizeof text, a);
+    if (a.refusal != refusal || strcmp(text, m->expected) != 0)
+        fail("the answer in numbers", m->name);
+    if (refusal == BOUNDS_REPORTED) {
+        if (values[BOUNDS_PLACE] != 0)
+            fail("a report with a place", m->name);
+        return;
+    }
+    for (int i = 1; i < BOUNDS_VALUES; i++)
+        if (values[i] != 0)
+            fail("a refusal with a value", m->name);
+    for (int i = 0; i < BOUNDS_POWERS; i++)
+        if (powers[i] != 0)
+            fail("a refusal with a power", m->name);
+    if (*bounds_sentence(refusal) == '\0')
+        fail("a refusal without a sentence", m->name);
+}
+
+static void check_text(const model *m, const uint32_t *words, size_t count)
+{
+    uint8_t text[BOUNDS_TEXT_SIZE + GUARD];
+    memset(text, 0xA5, sizeof text);
+    size_t length = bounds_text(words, count, m->budget, text);
+    if (length != strlen(m->expected) || memcmp(text, m->expected, length) != 0)
+        fail("the answer as text", m->name);
+    for (int i = 0; i < GUARD; i++)
+        if (text[BOUNDS_TEXT_SIZE + i] != 0xA5)
+            fail("bounds_text wrote past its buffer", m->name);
+}
+
+static const char *program; /* the report program */
+
+/* What it prints for the model's bytes. */
+static void check_report(const model *m)
+{
+    char file[] = "/tmp/bounds-calls-XXXXXX", command[512], text[512];
+    int descriptor = mkstemp(file);
+    if (descriptor < 0 || write(descriptor, m->bytes, m->length) != (ssize_t)m->length || close(descriptor) != 0)
+        fail("no temporary file", m->name);
+    snprintf(command, sizeof command, "'%s' < %s", program, file);
+    FILE *pipe = popen(command, "r");
+    if (pipe == NULL)
+        fail("the report program does not start", m->name);
+    size_t length = fread(text, 1, sizeof text - 1, pipe);
+    text[length] = '\0';
+    int status = pclose(pipe);
+    unlink(file);
+    if (status != 0 || strcmp(text, m->expected) != 0)
+        fail("the report program says otherwise", m->name);
+}
+
+static void check(const model *m)
+{
+    static uint32_t words[BOUNDS_WORDS_SIZE], before[BOUNDS_WORDS_SIZE];
+    size_t count = words_of(m, words);
+    memcpy(before, words, sizeof words);
+    check_assess(m, words, count);
+    check_text(m, words, count);
+    if (memcmp(before, words, sizeof words) != 0)
+        fail("lent words were changed", m->name);
+    if (m->budget == BOUNDS_MOST_BUDGET)
+        check_report(m);
+}
+
+/* ---- What no file has */
+
+static void set(model *m, const char *name, uint64_t budget, size_t words, const char *expected)
+{
+    static const uint32_t model_a[] = { 0x11002001, 0x2000000A, 0x30000000, 0x41801000, 0x50001002, 0x60400001, 0xF0000000 };
+    snprintf(m->name, sizeof m->name, "%s", name);
+    snprintf(m->expected, sizeof m->expected, "%s", expected);
+    m->budget = budget;
+    m->length = 4 * words;
+    memset(m->bytes, 0, sizeof m->bytes);
+    for (size_t i = 0; i < sizeof model_a; i++)
+        m->bytes[i] = (uint8_t)(model_a[i / 4] >> (8 * (i % 4)));
+}
+
+static const char REPORT_A[] = "lower 9.99500000E-4\nupper 1.00000000E-3\ncut 0\ndeaths 1\ncuts 0\nsteps 1\n";
+
+static void check_edges(void)
+{
+    static model m;
+    set(&m, "model A", BOUNDS_MOST_BUDGET, 7, REPORT_A);
+    check(&m);
+    set(&m, "model A, budget 1", 1, 7, REPORT_A);
+    check(&m);
+    set(&m, "no words", BOUNDS_MOST_BUDGET, 0, "refused 3 at 0\n");
+    check(&m);
+    set(&m, "budget 0", 0, 7, "refused 2 at 0\n");
+    check(&m);
+    set(&m, "budget 1,000,001", 1000001, 7, "refused 2 at 0\n");
+    check(&m);
+    set(&m, "the greatest budget", UINT64_MAX, 7, "refused 2 at 0\n");
+    check(&m);
+    set(&m, "16,005 words", BOUNDS_MOST_BUDGET, BOUNDS_MOST_WORDS, "refused 3 at 7\n");
+    check(&m);
+    set(&m, "16,006 words", BOUNDS_MOST_BUDGET, BOUNDS_MOST_WORDS + 1, "refused 1 at 0\n");
+    check(&m);
+    static uint8_t much[2 * MOST_BYTES];
+    static uint32_t words[BOUNDS_WORDS_SIZE];
+    if (bounds_words(much, sizeof much, words) != BOUNDS_WORDS_SIZE)
+        fail("the number of words", "more bytes than any model");
+    for (uint64_t refusal = 0; refusal < 20; refusal++) {
+        int known = (refusal >= 1 && refusal <= 11) || refusal == 13;
+        if ((*bounds_sentence(refusal) != '\0') != known)
+            fail("a sentence too many or too few", "bounds_sentence");
+    }
+}
+
+/* ---- Calls at once */
+
+static void *same_again(void *unused)
+{
+    static const uint32_t loop[] = { 0x11002001, 0x2000000A, 0x30000000, 0x41818000, 0x50001002, 0x60300001, 0x50002001, 0x60300001, 0xF0000000 };
+    char first[512], again[512];
+    (void)unused;
+    put_answer(first, sizeof first, bounds_ask(loop, 9, BOUNDS_MOST_BUDGET));
+    for (int i = 0; i < 2000; i++) {
+        put_answer(again, sizeof again, bounds_ask(loop, 9, BOUNDS_MOST_BUDGET));
+        if (strcmp(first, again) != 0)
+            fail("another answer in another thread", "calls at once");
+    }
+    return NULL;
+}
+
+static void check_threads(void)
+{
+    pthread_t threads[4];
+    for (int i = 0; i < 4; i++)
+        if (pthread_create(&threads[i], NULL, same_again, NULL) != 0)
+            fail("no thread", "calls at once");
+    for (int i = 0; i < 4; i++)
+        pthread_join(threads[i], NULL);
+}
+
+int main(int count, char **arguments)
+{
+    if (count < 3) {
+        fprintf(stderr, "usage: calls REPORT-PROGRAM FILE..\n");
+        return 2;
+    }
+    long models = 0;
+    program = arguments[1];
+    check_edges();
+    check_threads();
+    for (int i = 2; i < count; i++)
+        models += each_model(arguments[i], check);
+    printf("calls: %ld models agree, as numbers, as text and with the report program\n", models);
+    return models == 0;
+}

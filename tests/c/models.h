@@ -1,0 +1,73 @@
+/*
+ * Models with expected answers, from a file. A line is a name, a budget, a model's words and the expected answer. The words have eight
+ * hexadecimal digits each; `-` at their end stands for left-over bytes, `.` for no words. The answer has `|` for line ends and `=` for spaces.
+ */
+#ifndef MODELS_H
+#define MODELS_H
+
+#include "../../include/bounds.h"
+#include <stdio.h>
+#include <stdlib.h>
+#include <string.h>
+
+enum { MOST_BYTES = 4 * BOUNDS_WORDS_SIZE };
+
+typedef struct {
+    char name[64];
+    uint64_t budget;
+    uint8_t bytes[MOST_BYTES + 8];
+    size_t length;
+    char expected[512];
+} model;
+
+static void fail(const char *what, const char *of)
+{
+    fprintf(stderr, "%s: %s\n", of, what);
+    exit(1);
+}
+
+static uint8_t nibble(char c)
+{
+    return (uint8_t)(c <= '9' ? c - '0' : (c | 32) - 'a' + 10);
+}
+
+static void parse(char *line, model *m)
+{
+    char *name = strtok(line, " "), *budget = strtok(NULL, " "), *words = strtok(NULL, " "), *expected = strtok(NULL, "\n");
+    if (expected == NULL)
+        fail("a line that isn't four parts", name == NULL ? "?" : name);
+    snprintf(m->name, sizeof m->name, "%s", name);
+    m->budget = strtoull(budget, NULL, 10);
+    m->length = 0;
+    for (; *words != '\0' && *words != '.' && *words != '-'; words += 8, m->length += 4)
+        for (int i = 0; i < 4; i++)
+            m->bytes[m->length + (size_t)i] = (uint8_t)(nibble(words[6 - 2 * i]) << 4 | nibble(words[7 - 2 * i]));
+    if (*words == '-') {
+        memset(m->bytes + m->length, 0x50, 3);
+        m->length += 3;
+    }
+    size_t n = 0;
+    for (; *expected != '\0' && n + 2 < sizeof m->expected; expected++)
+        m->expected[n++] = *expected == '|' ? '\n' : *expected == '=' ? ' ' : *expected;
+    m->expected[n++] = '\n';
+    m->expected[n] = '\0';
+}
+
+/* Hands each model of a file on, and returns how many there were. */
+static long each_model(const char *path, void (*to)(const model *))
+{
+    static char line[10 * MOST_BYTES];
+    static model m;
+    long models = 0;
+    FILE *file = fopen(path, "r");
+    if (file == NULL)
+        fail("cannot be read", path);
+    for (; fgets(line, sizeof line, file) != NULL; models++) {
+        parse(line, &m);
+        to(&m);
+    }
+    fclose(file);
+    return models;
+}
+
+#endif
