@@ -1,31 +1,11 @@
 // Grains: the least n whose cube or square reaches g.
 ghost use mathlib.Core.Path.{_≡_};
-ghost use Prim.Native.Nat.{ℕ, _^_, _<_, _≤_};
+ghost use Prim.Native.Nat.{_^_, _<_, _≤_};
 ghost use Rattle.figure.specs.Rounding.{IsFigure};
 ghost use Rattle.tree.specs.Grains as goal;
 ghost use Rattle.bounds.specs.Roots.{exponent, Ceiling, Below};
+use figure::powers;
 use figure::Figure;
-
-const TENS: [u64; 10] = [
-    1,
-    10,
-    100,
-    1_000,
-    10_000,
-    100_000,
-    1_000_000,
-    10_000_000,
-    100_000_000,
-    1_000_000_000,
-];
-
-// Ten to the power k.
-fn ten_to(k: usize) -> u64
-    requires { ⌜ k < 10 ⌝ }
-    ensures { λ r. ⌜ r ≡ 10 ^ k ⌝ }
-{
-    TENS[k]
-}
 
 // The least whole number not below g, or 10^18 where that is less.
 fn ceiling(g: Figure) -> u64
@@ -37,12 +17,12 @@ fn ceiling(g: Figure) -> u64
         return 1_000_000_000_000_000_000;
     }
     if 0 <= power {
-        return g.digits * ten_to(power as usize);
+        return g.digits * powers::ten_to(power as usize);
     }
     if power < 0 - 9 {
         return 1;
     }
-    let d = ten_to((0 - power) as usize);
+    let d = powers::ten_to((0 - power) as usize);
     (g.digits + (d - 1)) / d
 }
 

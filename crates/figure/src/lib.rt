@@ -8,7 +8,7 @@ ghost use Rattle.figure.specs.Operations as ops;
 
 mod difference;
 mod division;
-mod powers;
+pub mod powers;
 mod product;
 mod quotient;
 mod sum;

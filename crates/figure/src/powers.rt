@@ -28,7 +28,7 @@ const TENS: [u64; 20] = [
 ];
 
 // Ten to the power k.
-pub(crate) fn ten_to(k: usize) -> u64
+pub fn ten_to(k: usize) -> u64
     requires { ⌜ k < 20 ⌝ }
     ensures { λ r. ⌜ r ≡ 10 ^ k ⌝ }
 {

@@ -1,4 +1,6 @@
 -- `grains::ceiling` meets its contract, by the range of the power. Assumes nothing.
+use native.Mathlib.Nat.{le-trans}
+use lib.Dec.{lit≤}
 use borrow.Author.Needs.{needs}
 use Rattle.bounds.proofs.Ceilings.{ceiling-high, whole-cast, whole-below, whole-fits, ceiling-whole, ceiling-low, part-fit, part-cast, part-below, part-pos, part-fits, ceiling-part}
 use Rattle.bounds.proofs.grains.ceiling.Statement.{statement}
@@ -11,7 +13,8 @@ cast-ten-to : tie.Need-cast-ten-to
 cast-ten-to c = let s = c .before .before .before in whole-cast (s .args .g) (s .pre) (search needs) (c .before .if1 .left) (c .if2 .taken)
 
 ten-to-requires : tie.Need-ten-to-requires
-ten-to-requires c κs = let s = c .before .before .before in whole-below (s .args .g) (s .pre) (search needs) (c .before .if1 .left) (c .if2 .taken)
+ten-to-requires c κs = let s = c .before .before .before in
+    le-trans (whole-below (s .args .g) (s .pre) (search needs) (c .before .if1 .left) (c .if2 .taken)) (lit≤ tt)
 
 mul-result : tie.Need-mul-result
 mul-result c = let b = c .before .before in let s = b .before .before .before in
@@ -34,7 +37,8 @@ cast-ten-to-2 : tie.Need-cast-ten-to-2
 cast-ten-to-2 c = let s = c .before .before .before .before in part-cast (s .args .g) (s .pre) (search needs) (c .before .if2 .left) (c .if3 .left)
 
 ten-to-requires-2 : tie.Need-ten-to-requires-2
-ten-to-requires-2 c κs = let s = c .before .before .before .before in part-below (s .args .g) (s .pre) (search needs) (c .before .if2 .left) (c .if3 .left)
+ten-to-requires-2 c κs = let s = c .before .before .before .before in
+    le-trans (part-below (s .args .g) (s .pre) (search needs) (c .before .if2 .left) (c .if3 .left)) (lit≤ tt)
 
 sub-result : tie.Need-sub-result
 sub-result c = let b = c .before in let s = b .before .before .before .before in
