@@ -32,7 +32,10 @@ pub record Promised (before after : List ℕ) (budget : ℕ) (r : Answer) : Type
   -- "the lent words are unchanged"
   pub words-unchanged : after ≡ before
   -- in a report the steps are the count of paths in the cut tree
-  pub steps-are : (m : Model) (q : definition.Report) → reading.read before budget ≡ reading.granted m → answer-of r ≡ reading.granted q → q .steps ≡ length (tree (m .net) (m .limits))
+  pub steps-are : (m : Model) (q : definition.Report) → reading.read before budget ≡ reading.granted m → answer-of r ≡ reading.granted q
+      → q .steps ≡ length (tree (m .net) (m .limits))
   -- "An allowed budget is refused exactly when the tree has more steps than it"
-  pub refused-over : (m : Model) → reading.read before budget ≡ reading.granted m → budget < length (tree (m .net) (m .limits)) → answer-of r ≡ reading.refused 13 0
-  pub over-refused : (m : Model) → reading.read before budget ≡ reading.granted m → answer-of r ≡ reading.refused 13 0 → budget < length (tree (m .net) (m .limits))
+  pub refused-over : (m : Model) → reading.read before budget ≡ reading.granted m → budget < length (tree (m .net) (m .limits))
+      → answer-of r ≡ reading.refused 13 0
+  pub over-refused : (m : Model) → reading.read before budget ≡ reading.granted m → answer-of r ≡ reading.refused 13 0
+      → budget < length (tree (m .net) (m .limits))

@@ -20,7 +20,11 @@ transition-at ws =
     record {
       from = from-field (getD ws 0 0);
       to = to-field (getD ws 0 0);
-      manner = elim (eqb (kind (getD ws 0 0)) 7) [ true ↦ fast (quantity (getD ws 1 0)) (quantity (getD ws 2 0)) (quantity (getD ws 3 0)) | false ↦ slow (quantity (getD ws 1 0)) ];
+      manner =
+          elim (eqb (kind (getD ws 0 0)) 7) [
+            | true ↦ fast (quantity (getD ws 1 0)) (quantity (getD ws 2 0)) (quantity (getD ws 3 0))
+            | false ↦ slow (quantity (getD ws 1 0))
+          ];
     }
 
 -- how many words a transition takes

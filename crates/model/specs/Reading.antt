@@ -40,7 +40,12 @@ empty-model n s t p l v = record { states = n; net = record { start = s; time = 
 
 -- the table with one more transition, behind the others
 abbrev pub with-transition : Model → ℕ → ℕ → Manner → Model
-with-transition m a b x = record { states = m .states; net = record { start = m .net .start; time = m .net .time; table = m .net .table ++ (record { from = a; to = b; manner = x } ∷ []) }; limits = m .limits }
+with-transition m a b x =
+    record {
+      states = m .states;
+      net = record { start = m .net .start; time = m .net .time; table = m .net .table ++ (record { from = a; to = b; manner = x } ∷ []) };
+      limits = m .limits;
+    }
 
 pub data Next : Type 0 where
   wrong : ℕ → Next

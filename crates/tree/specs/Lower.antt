@@ -21,11 +21,17 @@ exact q = ratio (pos (q .coefficient)) (10 ^ q .scale)
 
 -- "y = up(up(E × m) + up(M / down(down(n²) × T2) × 10^12))": what class 2 takes off, of the state s and n grains
 unfoldable pub class2-loss : Net → ℕ → Quantity → Quantity → ℕ → Figure
-class2-loss net s m d n = plus-up (times-up (rate-sum net s) (figure-of m)) (times-ten (divided-up (second-moment m d) (times-down (of-whole (n ^ 2)) (time-squared net))) (pos 12))
+class2-loss net s m d n =
+    plus-up
+    (times-up (rate-sum net s) (figure-of m))
+    (times-ten (divided-up (second-moment m d) (times-down (of-whole (n ^ 2)) (time-squared net))) (pos 12))
 
 -- "Class 3: y = up(up(up(E × H) / 2) + up(H / down(n × T)) × 10^6)"
 unfoldable pub class3-loss : Net → ℕ → ℕ → Figure
-class3-loss net s n = plus-up (divided-up (times-up (rate-sum net s) (moment-sum net s)) (of-whole 2)) (times-ten (divided-up (moment-sum net s) (times-down (of-whole n) (mission-time net))) (pos 6))
+class3-loss net s n =
+    plus-up
+    (divided-up (times-up (rate-sum net s) (moment-sum net s)) (of-whole 2))
+    (times-ten (divided-up (moment-sum net s) (times-down (of-whole n) (mission-time net))) (pos 6))
 
 -- "Class 2 factor: .. down(q × down(1 − y))"
 unfoldable pub class2-factor : Net → ℕ → Manner → ℕ → Figure

@@ -81,7 +81,8 @@ words-G c = model-words 1 4 0 0 (fast-words 1 2 1 4 1 4 333333 6 ++ fast-words 1
 unfoldable pub marked-models : List Marked
 marked-models =
     -- A
-    model words-A million (lower-is (printed 999500000 (negℤ (pos 4))) ∷ upper-is (printed 100000000 (negℤ (pos 3))) ∷ cut-is none ∷ deaths-are 1 ∷ cuts-are 0 ∷ steps-are 1 ∷ [])
+    model words-A million
+    (lower-is (printed 999500000 (negℤ (pos 4))) ∷ upper-is (printed 100000000 (negℤ (pos 3))) ∷ cut-is none ∷ deaths-are 1 ∷ cuts-are 0 ∷ steps-are 1 ∷ [])
     -- B: "Upper 1.50006000E-6, deaths 2, cuts 0, steps 4. Grains: 4,473 for 2 to 3, 737 for 2 to 4."
     ∷ model (words-B 0 0) million (upper-is (printed 150006000 (negℤ (pos 6))) ∷ deaths-are 2 ∷ cuts-are 0 ∷ steps-are 4 ∷ grains-are 1 4473 ∷ grains-are 2 737 ∷ [])
     -- C: "B with P 3E-3: upper and cut 3.00000000E-3, lower 0, deaths 0, cuts 1, steps 1. With P 2.9E-3, all as B."
@@ -115,7 +116,10 @@ abbrev same-figure : Figure → Figure → Bool
 same-figure f g = eqb (f .digits) (g .digits) && (leZ (f .power) (g .power) && leZ (g .power) (f .power))
 
 abbrev same-report : Report → Report → Bool
-same-report r s = same-figure (r .lower) (s .lower) && (same-figure (r .upper) (s .upper) && (same-figure (r .cut) (s .cut) && (eqb (r .deaths) (s .deaths) && (eqb (r .cuts) (s .cuts) && eqb (r .steps) (s .steps)))))
+same-report r s =
+    same-figure (r .lower) (s .lower)
+    && (same-figure (r .upper) (s .upper)
+    && (same-figure (r .cut) (s .cut) && (eqb (r .deaths) (s .deaths) && (eqb (r .cuts) (s .cuts) && eqb (r .steps) (s .steps)))))
 
 -- a test of what was granted, false for a refusal
 abbrev if-granted : {A : Type 0} → Answer A → (A → Bool) → Bool
