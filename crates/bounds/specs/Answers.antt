@@ -3,7 +3,7 @@ use Prim.Native.Nat.{ℕ, _<_}
 use mathlib.Core.Path.{_≡_}
 use mathlib.Core.List.{List}
 use lib.ListN.{length}
-use Rattle.model.specs.Model.{Net, Limits, Model}
+use Rattle.model.specs.Model.{Model}
 use Rattle.model.specs.Reading as reading
 use Rattle.model.specs.Refusal.{number, place}
 use Rattle.tree.specs.Tree.{tree}
@@ -25,16 +25,16 @@ answer-of (Refused f) = reading.refused (number f) (place f)
 pub record Promised (before after : List ℕ) (budget : ℕ) (r : Answer) : Type 0 where
   -- demands 1 and 2: the answer is the definition's, a report with its figures and counts or a refusal with its number and place
   pub answer-is : answer-of r ≡ definition.answer before budget
-  -- "A refusal carries its number and place, every figure and count in it is zero"
+  -- as plain values: a refusal's number and place, and every figure and count in it zero
   pub values-are : definition.values (answer-of r) ≡ definition.values (definition.answer before budget)
   -- demand 3: the accuracy rule
   pub accuracy : AccuracyRule before budget (answer-of r)
-  -- "the lent words are unchanged"
+  -- the lent words are unchanged
   pub words-unchanged : after ≡ before
   -- in a report the steps are the count of paths in the cut tree
   pub steps-are : (m : Model) (q : definition.Report) → reading.read before budget ≡ reading.granted m → answer-of r ≡ reading.granted q
       → q .steps ≡ length (tree (m .net) (m .limits))
-  -- "An allowed budget is refused exactly when the tree has more steps than it"
+  -- an allowed budget is refused exactly when the tree has more steps than it ("13: the cut tree has more steps than the budget. Place 0.")
   pub refused-over : (m : Model) → reading.read before budget ≡ reading.granted m → budget < length (tree (m .net) (m .limits))
       → answer-of r ≡ reading.refused 13 0
   pub over-refused : (m : Model) → reading.read before budget ≡ reading.granted m → answer-of r ≡ reading.refused 13 0

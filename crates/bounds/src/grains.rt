@@ -4,8 +4,8 @@ ghost use Prim.Native.Nat.{_^_, _<_, _≤_};
 ghost use Rattle.figure.specs.Rounding.{IsFigure};
 ghost use Rattle.tree.specs.Grains as goal;
 ghost use Rattle.bounds.specs.Roots.{exponent, Ceiling, Below};
-use figure::powers;
 use figure::Figure;
+use figure::powers;
 
 // The least whole number not below g, or 10^18 where that is less.
 fn ceiling(g: Figure) -> u64

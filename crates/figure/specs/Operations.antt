@@ -3,7 +3,7 @@
 use mathlib.Core.Bool.{Bool}
 use Prim.Native.Nat.{ℕ, zero, suc, _^_}
 use lib.IntN.{ℤ, pos, _+ℤ_}
-use Rattle.fraction.specs.Fraction.{Fraction, whole, ratio, at-most, _+ᶠ_, _-ᶠ_, _*ᶠ_, _/ᶠ_}
+use Rattle.fraction.specs.Fraction.{whole, ratio, at-most, _+ᶠ_, _-ᶠ_, _*ᶠ_, _/ᶠ_}
 use Rattle.figure.specs.declared.Figure.{Figure}
 use Rattle.figure.specs.Rounding.{figure, none, value, up, down}
 

@@ -1,6 +1,6 @@
 -- Document 01, "Figures and their rounding": what a figure is, its value, and the two roundings. The number of digits, K, is a parameter: 9 for
 -- a figure and 18 for a running total ("Totals keep eighteen digits"). Assumes nothing: these are definitions.
-use mathlib.Core.Bool.{Bool, true, false}
+use mathlib.Core.Bool.{true, false}
 use mathlib.Core.Path.{_≡_}
 use Prim.Native.Nat.{ℕ, zero, suc, _+_, _-_, _*_, _/_, _^_, _≤_, _<_}
 use lib.Dec.{ltb}
@@ -36,7 +36,8 @@ pub record IsDown (K : ℕ) (x : Fraction) (f : Figure) : Type 0 where
   pub not-above : value f ≤ᶠ x
   pub greatest : (g : Figure) → IsFigure K g → value g ≤ᶠ x → value g ≤ᶠ value f
 
--- ---- the two, computed
+-- ---- the two, computed: that `up` and `down` below are these, and the only ones, for x at or above 0 is `up-is-up`, `down-is-down`, `up-unique`
+-- and `down-unique` (crates/figure/proofs/Rounding.antt)
 
 -- the number of decimal digits: the least j from `j` on with n below 10^j; `fuel` bounds the search
 unfoldable pub digits-from : ℕ → ℕ → ℕ → ℕ
@@ -79,7 +80,7 @@ up-from K (suc n) x e = elim (ltb (ceiling x e) (10 ^ K)) [ true ↦ figure (cei
 unfoldable pub down-from : ℕ → Fraction → ℤ → Figure
 down-from K x e = elim (ltb (floor x (sucℤ e)) (10 ^ (K - 1))) [ true ↦ figure (floor x e) e | false ↦ figure (floor x (sucℤ e)) (sucℤ e) ]
 
--- Up(x), to K digits. For x below 0, which nothing asks for, it is 0.
+-- Up(x), to K digits. For x below 0 it is 0 ("A difference that isn't positive is 0").
 unfoldable pub up : ℕ → Fraction → Figure
 up K x = elim (above-zero (x .num)) [ zero ↦ none | suc _ ↦ up-from K 2 x (lowest-power K x) ]
 

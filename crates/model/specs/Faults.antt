@@ -1,11 +1,11 @@
 -- Document 01, "Why a model is turned away": what can be wrong with a word, or with a whole model. Each place of the table has its conditions as a
 -- list in document 01's order, each with its refusal's number; the first that holds counts. Assumes nothing: these are definitions.
-use Prim.Native.Nat.{ℕ, zero, suc}
+use Prim.Native.Nat.{ℕ}
 use mathlib.Core.Bool.{Bool, true, false, not, _&&_, _||_}
 use mathlib.Core.List.{List, [], _∷_}
 use lib.ListN.{length}
 use lib.Dec.{leb, ltb, eqb}
-use Rattle.model.specs.Model.{Manner, Transition, is-fast, any, exits-in}
+use Rattle.model.specs.Model.{Transition, is-fast, any, exits-in}
 use Rattle.model.specs.Words.{kind, edition-field, states-field, start-field, steps-field, entries-field, caps-rest, transition-rest, from-field, to-field, end-rest, scale-field, coefficient-field}
 
 infix 15 _gives_
@@ -67,5 +67,6 @@ transition-faults fast? states table w =
     ∷ (leb 16 (length (exits-in table (from-field w))) || leb 4000 (length table) gives 9)
     ∷ []
 
+-- "Kind 15, end: other bits zero."
 abbrev pub end-faults : ℕ → List Fault
 end-faults w = (differs (end-rest w) 0 gives 4) ∷ []

@@ -1,6 +1,6 @@
 -- What a word table describes: a semi-Markov model. Document 01, "The model words". Assumes nothing: these are definitions.
-use Prim.Native.Nat.{ℕ, zero, suc, _+_, _-_, _*_, _^_}
-use mathlib.Core.Bool.{Bool, true, false, not, _&&_, _||_}
+use Prim.Native.Nat.{ℕ, _+_, _-_, _*_, _^_}
+use mathlib.Core.Bool.{Bool, true, false, _||_}
 use mathlib.Core.List.{List, [], _∷_}
 use lib.Dec.{eqb}
 use Rattle.model.specs.declared.Quantity.{Quantity}

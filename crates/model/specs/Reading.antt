@@ -1,12 +1,12 @@
 -- Document 01, "The model words" and "Why a model is turned away": reading a list of words from the left, and refusals 1 to 11. "Order: 1, 2; then
 -- words from the left, and at one word 3, 4, 5, 6, 7, 8, 9; after the end 10, 11." Assumes nothing: these are definitions.
 use Prim.Native.Nat.{ℕ, zero, suc}
-use mathlib.Core.Bool.{Bool, true, false, not, _&&_, _||_}
+use mathlib.Core.Bool.{Bool, true, false, _&&_}
 use mathlib.Core.List.{List, [], _∷_, _++_}
 use lib.ListN.{length}
-use lib.Dec.{leb, ltb, eqb}
+use lib.Dec.{ltb, eqb}
 use Rattle.model.specs.declared.Quantity.{Quantity}
-use Rattle.model.specs.Model.{Manner, slow, fast, Transition, Net, Limits, Model, is-empty, exits, has-fast, probability-sum}
+use Rattle.model.specs.Model.{Manner, slow, fast, Net, Model, is-empty, exits, has-fast, probability-sum}
 use Rattle.model.specs.Words.{kind, states-field, start-field, steps-field, entries-field, from-field, to-field, quantity}
 use Rattle.model.specs.Faults.{Fault, outside, differs, head-faults, quantity-faults, caps-faults, transition-faults, end-faults}
 
@@ -110,7 +110,7 @@ unfoldable pub lowest-uneven : Net → ℕ → ℕ → ℕ
 lowest-uneven net zero s = 0
 lowest-uneven net (suc n) s = elim (uneven net s) [ true ↦ s | false ↦ lowest-uneven net n (suc s) ]
 
--- the tests after the end word, in their order: a condition, the refusal's number and its place
+-- a test that belongs to no word, with its refusal's number and place: of the caller, after the end word, or of the walk
 pub record Finding : Type 0 where
   pub fault : Fault
   pub place : ℕ

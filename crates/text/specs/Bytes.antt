@@ -20,13 +20,11 @@ words-of (a ∷ b ∷ []) = no-kind ∷ []
 words-of (a ∷ b ∷ c ∷ []) = no-kind ∷ []
 words-of (a ∷ b ∷ c ∷ d ∷ rest) = word a b c d ∷ words-of rest
 
--- ---- for the code
-
 -- the word of a list's first four bytes
 abbrev pub word-at : List ℕ → ℕ
 word-at l = word (getD l 0 0) (getD l 1 0) (getD l 2 0) (getD l 3 0)
 
--- the first n of these words are those of the bytes
+-- What `words_of` promises: the first n of these words are those of the bytes. What the others hold is free.
 pub record Spelled (bytes words : List ℕ) (n : ℕ) : Type 0 where
   pub whole : length words ≡ 16006
   pub within : n ≤ 16006

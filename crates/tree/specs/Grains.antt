@@ -2,7 +2,7 @@
 -- Assumes nothing: these are definitions.
 use Prim.Native.Nat.{ℕ, zero, suc, _+_, _/_, _^_, _≤_, _<_}
 use mathlib.Core.Bool.{Bool, true, false}
-use mathlib.Core.List.{List, [], _∷_}
+use mathlib.Core.List.{[], _∷_}
 use lib.Dec.{T, leb}
 use Rattle.fraction.specs.Fraction.{whole, at-most}
 use Rattle.figure.specs.declared.Figure.{Figure}
@@ -22,7 +22,7 @@ pub record Least (test : ℕ → Bool) (top n : ℕ) : Type 0 where
   pub first : (i : ℕ) → 1 ≤ i → i < n → T (test i) → ⊥
 
 -- The least number above `low` and up to `high` that passes a test that stays passed, by halving: a search from 1 on would take a million
--- steps. `fuel` bounds the halvings. A law says that it is the least.
+-- steps. `fuel` bounds the halvings. That `least` below is the least in the sense of `Least` is the law `least-is-least` (crates/tree/proofs/Least.antt).
 unfoldable pub halve : ℕ → (ℕ → Bool) → ℕ → ℕ → ℕ
 halve zero test low high = high
 halve (suc fuel) test low high =

@@ -1,7 +1,7 @@
 -- Document 01, "Figures and their rounding": the rounded lower of a death path. Assumes nothing: these are definitions.
-use Prim.Native.Nat.{ℕ, zero, suc, _+_, _^_}
-use mathlib.Core.Bool.{Bool, true, false}
-use mathlib.Core.List.{List, [], _∷_}
+use Prim.Native.Nat.{ℕ, _+_, _^_}
+use mathlib.Core.Bool.{true, false}
+use mathlib.Core.List.{[], _∷_}
 use lib.Dec.{leb}
 use lib.IntN.{pos}
 use Rattle.fraction.specs.Fraction.{Fraction, whole, ratio, _-ᶠ_, _*ᶠ_, _/ᶠ_}

@@ -1,17 +1,15 @@
 -- Document 01, "The report program and the marked models": models A to L as one list, each with what the page says of it, and one claim: that the
 -- definitions agree with all of it. Assumes nothing: these are definitions.
-use Prim.Native.Nat.{ℕ, zero, suc, _+_, _-_, _*_, _^_}
+use Prim.Native.Nat.{ℕ, _+_, _-_, _*_, _^_}
 use mathlib.Core.Path.{_≡_}
 use mathlib.Core.Bool.{Bool, true, false, _&&_}
 use mathlib.Core.List.{List, [], _∷_, _++_}
 use lib.IntN.{ℤ, pos, negsuc, negℤ, _+ℤ_}
 use lib.Signed.{leZ}
-use lib.ListN.{getD}
 use lib.Dec.{eqb}
 use Rattle.figure.specs.declared.Figure.{Figure}
 use Rattle.figure.specs.Rounding.{figure, none}
 use Rattle.figure.specs.Operations.{times-up, times-down}
-use Rattle.model.specs.Model.{Model}
 use Rattle.model.specs.Reading.{Answer, read}
 use Rattle.model.specs.Index.{transition}
 use Rattle.tree.specs.Grains.{grains}

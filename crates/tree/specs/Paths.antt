@@ -1,6 +1,6 @@
 -- Document 01, "The cut tree" and "Classes and the exact bounds": paths, the classes of their steps, and how often a path has entered a state.
 -- Assumes nothing: these are definitions.
-use Prim.Native.Nat.{ℕ, zero, suc, _+_}
+use Prim.Native.Nat.{ℕ, _+_}
 use mathlib.Core.Bool.{Bool, true, false}
 use mathlib.Core.List.{List, [], _∷_, List·Mem}
 use lib.Dec.{eqb}

@@ -2,7 +2,7 @@
 -- order". "E, M (squares first), h, H .. round up; h is also had rounding down, called h'. T2 is down(T × T)."
 -- Assumes nothing: these are definitions.
 use Prim.Native.Nat.{ℕ}
-use mathlib.Core.List.{List, [], _∷_, foldl}
+use mathlib.Core.List.{List, foldl}
 use Rattle.figure.specs.declared.Figure.{Figure}
 use Rattle.figure.specs.Rounding.{none}
 use Rattle.figure.specs.Operations.{times-up, times-down, plus-up, plus-down, of-quantity}

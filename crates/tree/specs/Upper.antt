@@ -1,6 +1,6 @@
 -- Document 01, "Figures and their rounding": the rounded upper U of a path. Assumes nothing: these are definitions.
 use Prim.Native.Nat.{ℕ}
-use mathlib.Core.List.{List, [], _∷_}
+use mathlib.Core.List.{[], _∷_}
 use Rattle.figure.specs.declared.Figure.{Figure}
 use Rattle.figure.specs.Operations.{times-up, divided-up, of-whole}
 use Rattle.model.specs.Model.{Manner, slow, fast, Transition, Net}
