@@ -101,7 +101,8 @@ read-from r i (w ∷ ws) = elim (next r w) [ wrong n ↦ refused n i | right r�
 
 -- ---- after the end: 10 and 11
 
--- "a state has fast exits and their probabilities don't sum to exactly 1", as whole numbers of 10^-12
+-- "a state has fast exits and their probabilities don't sum to exactly 1", in whole numbers of 10^-12; `probability-sum-iff` in
+-- crates/tree/proofs/Probabilities.antt says that this is the sum of the fractions
 abbrev pub uneven : Net → ℕ → Bool
 uneven net s = has-fast (exits net s) && differs (probability-sum (exits net s)) 1000000000000
 

@@ -14,3 +14,4 @@ pub mod Answer
 pub mod Divisors
 pub mod RemainingTime
 pub mod Ranges
+pub mod Probabilities
