@@ -53,6 +53,7 @@ ratio n zero = whole 0
 ratio n (suc d) = record { num = n; den = suc d; den-pos = zero-lt-suc d }
 
 -- One over y. Where y is 0 or negative, this is 0: no rule of document 01 divides by such a number in an accepted model.
+-- crates/tree/proofs/Divisors.antt (rounded) and crates/accuracy/proofs/Divisors.antt (exact) prove that.
 unfoldable pub inverse : Fraction → Fraction
 inverse y = elim (y .num) [ pos n ↦ ratio (pos (y .den)) n | negsuc _ ↦ whole 0 ]
 
