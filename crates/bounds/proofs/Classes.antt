@@ -100,14 +100,14 @@ module _ {ws places means : List ℕ} (classed : Classed ws places means) {j : �
   state-holds f table h e r-is =
       r-is ∙ ap (λ (i : ℕ). unpacked (getD table i 0)) e ∙ h ((transition (net-of ws) j) .from) origin-low origin-high
 
-  -- the state and the class, of the word's place and what the code has read there
+  -- the state and the class, of the word as the code has read it
 
-  module _ {at s : ℕ} (at-is : at ≡ getD places j 0) (s-is : s ≡ from-field (getD ws at 0)) where
+  module _ {w s : ℕ} (w-is : w ≡ word ws places j) (s-is : s ≡ from-field w) where
     pub state-read : s ≡ (transition (net-of ws) j) .from
-    state-read = s-is ∙ ap (λ (a : ℕ). from-field (getD ws a 0)) at-is ∙ origin-is
+    state-read = s-is ∙ ap from-field w-is ∙ origin-is
 
-    pub code-read : {b : Bool} {r : ℕ} → b ≡ eqb (kind (getD ws at 0)) 7 → r ≡ class-code b ((unpacked (getD means s 0)) .digits)
+    pub code-read : {b : Bool} {r : ℕ} → b ≡ eqb (kind w) 7 → r ≡ class-code b ((unpacked (getD means s 0)) .digits)
         → r ≡ class-number (step-class (net-of ws) j)
     code-read {b} b-is r-is =
-        r-is ∙ ap (λ (b : Bool). class-code b ((unpacked (getD means s 0)) .digits)) (b-is ∙ ap (λ (a : ℕ). eqb (kind (getD ws a 0)) 7) at-is)
+        r-is ∙ ap (λ (b : Bool). class-code b ((unpacked (getD means s 0)) .digits)) (b-is ∙ ap (λ (x : ℕ). eqb (kind x) 7) w-is)
         ∙ class-read s state-read

@@ -12,7 +12,7 @@ use Rattle.figure.proofs.Sized.{sized-≤}
 use Rattle.model.specs.Model.{Transition, Net}
 use Rattle.model.specs.Words.{kind, to-field}
 use Rattle.model.specs.Index.{transition}
-use Rattle.model.proofs.Slots.{stands-to}
+use Rattle.model.proofs.Slots.{word, stands-to}
 use Rattle.tree.specs.Paths.{class}
 use Rattle.tree.specs.States.{mission-time, mean-up}
 use Rattle.tree.specs.Upper.{share}
@@ -61,19 +61,19 @@ module _ {ws slots places shares means : List ℕ} {time : Figure} {tip : Tip} {
       pub exit-share-sized : Sized 9 1000 s
       exit-share-sized = rw share-is (sized-≤ (lit≤ tt) (share-sized (exit .manner) ((step-valid (h .classed .valid) (h .index)) .manner)))
 
-    -- `at` is the place of its word
-    module _ {at : ℕ} (at-is : at ≡ getD places j 0) where
-      place-is : at ≡ getD places slot 0
-      place-is = at-is ∙ ap (λ k. getD places k 0) j-is
+    pub exit-inside : getD places j 0 < length ws
+    exit-inside = rw j-is (place-inside (h .classed) (h .index))
 
-      pub word-inside : at < length ws
-      word-inside = rw place-is (place-inside (h .classed) (h .index))
+    -- w is its word
+    module _ {w : ℕ} (w-is : w ≡ word ws places j) where
+      word-there : w ≡ word ws places slot
+      word-there = w-is ∙ ap (word ws places) j-is
 
       -- what is read of the exit, and the tip beyond it
       pub exit-of : {b : Bool} {x to : ℕ} {s m : Figure} {next : Tip}
-          → b ≡ eqb (kind (getD ws at 0)) 7
+          → b ≡ eqb (kind w) 7
           → x ≡ class-code b ((unpacked (getD means (tip .state) 0)) .digits)
-          → to ≡ to-field (getD ws at 0)
+          → to ≡ to-field w
           → s ≡ unpacked (getD shares j 0)
           → m ≡ unpacked (getD means (tip .state) 0)
           → next ≡ tip-by tip x to s m time
@@ -83,14 +83,14 @@ module _ {ws slots places shares means : List ℕ} {time : Figure} {tip : Tip} {
         class-is = class-there;
         tip-is =
             next-is
-            ∙ same-tip class-there (to-is ∙ ap (λ p. to-field (getD ws p 0)) place-is ∙ stands-to (h .classed .places-are slot (h .index))) (share-is s-is) (mean-is m-is)
+            ∙ same-tip class-there (to-is ∙ ap to-field word-there ∙ stands-to (h .classed .places-are slot (h .index))) (share-is s-is) (mean-is m-is)
             ∙ tip-by-transition net exit tip;
       }
         where
           class-there : x ≡ class-number (class net exit)
           class-there =
               x-is
-              ∙ ap (λ (r : Bool). class-code r ((unpacked (getD means (tip .state) 0)) .digits)) (b-is ∙ ap (λ p. eqb (kind (getD ws p 0)) 7) place-is)
+              ∙ ap (λ (r : Bool). class-code r ((unpacked (getD means (tip .state) 0)) .digits)) (b-is ∙ ap (λ (x : ℕ). eqb (kind x) 7) word-there)
               ∙ class-read (h .classed) (h .index) (tip .state) (sym (h .leaves))
 
           same-tip : x ≡ class-number (class net exit) → to ≡ exit .to → s ≡ share (exit .manner) → m ≡ mean-up net (exit .from)

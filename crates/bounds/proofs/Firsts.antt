@@ -3,11 +3,9 @@ use Prim.Native.Nat.{ℕ, _+_, _-_, _<_}
 use mathlib.Core.Path.{_≡_, ap, _∙_}
 use mathlib.Core.Bool.{true, false}
 use mathlib.Core.List.{List}
-use native.Mathlib.Nat.{add-zero}
 use native.Mathlib.Omega.{arith}
 use lib.Dec.{eqb, lit≤}
 use lib.ListN.{length, getD, take, drop, length-drop}
-use lib.Seq.{getD-drop}
 use borrow.Author.Tests.{eqb-true, eqb-false}
 use Rattle.figure.specs.declared.Figure.{Figure}
 use Rattle.figure.specs.Operands.{Sized}
@@ -17,7 +15,7 @@ use Rattle.model.specs.Model.{Manner, slow, fast, Transition, is-fast}
 use Rattle.model.specs.Words.{kind, coefficient-field, quantity}
 use Rattle.model.specs.Index.{transition-at, Stands}
 use Rattle.model.proofs.Valid.{InRange, ValidManner}
-use Rattle.model.proofs.Steps.{part-from}
+use Rattle.model.proofs.Steps.{part-from, part-word}
 use Rattle.model.proofs.Slots.{fast-at, slow-at, stands-inside, stands-inside-fast, stands-fast, stands-slow-manner}
 use Rattle.tree.specs.States.{figure-of}
 use Rattle.tree.proofs.Ranges.{quantity-sized}
@@ -30,9 +28,6 @@ part-at ws place = take (length ws - place) (drop place ws)
 -- the first of them
 abbrev pub word-from : List ℕ → ℕ → ℕ
 word-from part k = getD (part-at part k) 0 0
-
-word-is : (part : List ℕ) (k : ℕ) → word-from part k ≡ getD part k 0
-word-is part k = ap (λ (l : List ℕ). getD l 0 0) (part-from part k) ∙ getD-drop k part 0 0 ∙ ap (λ (i : ℕ). getD part i 0) (add-zero k)
 
 -- a valid transition that stands at a place
 pub record Placed (ws : List ℕ) (t : Transition) (place : ℕ) : Type 0 where
@@ -99,13 +94,13 @@ module _ {part : List ℕ} (first : StandsFirst part) where
     first-long-fast = stands-inside-fast (first .stands) (eqb-true (kind (getD part 0 0)) 7 test)
 
     pub fast-1 : coefficient-field (word-from part 1) < 1000000
-    fast-1 = rw (word-is part 1) (low-coefficient (getD part 1 0) (fast-valid .0))
+    fast-1 = rw (part-word part 1) (low-coefficient (getD part 1 0) (fast-valid .0))
 
     pub fast-2 : coefficient-field (word-from part 2) < 1000000
-    fast-2 = rw (word-is part 2) (low-coefficient (getD part 2 0) (fast-valid .1 .0))
+    fast-2 = rw (part-word part 2) (low-coefficient (getD part 2 0) (fast-valid .1 .0))
 
     pub fast-3 : coefficient-field (word-from part 3) < 1000000
-    fast-3 = rw (word-is part 3) (low-coefficient (getD part 3 0) (fast-valid .1 .1))
+    fast-3 = rw (part-word part 3) (low-coefficient (getD part 3 0) (fast-valid .1 .1))
 
     pub fast-read : {m d q : Figure} → m ≡ figure-of (quantity (word-from part 1)) → d ≡ figure-of (quantity (word-from part 2))
         → q ≡ figure-of (quantity (word-from part 3)) → FastRead ((transition-at part) .manner) m d q
@@ -117,9 +112,9 @@ module _ {part : List ℕ} (first : StandsFirst part) where
       mean-valid = fast-valid .0;
       deviation-valid = fast-valid .1 .0;
       probability-valid = fast-valid .1 .1;
-      mean-is = rw (word-is part 1) at a;
-      deviation-is = rw (word-is part 2) at b;
-      probability-is = rw (word-is part 3) at c;
+      mean-is = rw (part-word part 1) at a;
+      deviation-is = rw (part-word part 2) at b;
+      probability-is = rw (part-word part 3) at c;
     }
 
   module _ (test : eqb (kind (getD part 0 0)) 7 ≡ false) where
@@ -128,10 +123,10 @@ module _ {part : List ℕ} (first : StandsFirst part) where
     slow-valid = rw (slow-at part test) at first-valid
 
     pub slow-1 : coefficient-field (word-from part 1) < 1000000
-    slow-1 = rw (word-is part 1) (low-coefficient (getD part 1 0) slow-valid)
+    slow-1 = rw (part-word part 1) (low-coefficient (getD part 1 0) slow-valid)
 
     pub slow-read : {r : Figure} → r ≡ figure-of (quantity (word-from part 1)) → SlowRead ((transition-at part) .manner) r
-    slow-read a = record { rate = quantity (getD part 1 0); manner = slow-at part test; valid = slow-valid; rate-is = rw (word-is part 1) at a }
+    slow-read a = record { rate = quantity (getD part 1 0); manner = slow-at part test; valid = slow-valid; rate-is = rw (part-word part 1) at a }
 
 -- ---- a slow one's rate from the word behind its place
 
@@ -144,14 +139,14 @@ module _ {ws : List ℕ} {t : Transition} {place : ℕ} (p : Placed ws t place) 
   behind-valid = rw behind-is at (p .valid)
 
   pub behind-low : coefficient-field (word-from ws (place + 1)) < 1000000
-  behind-low = rw (word-is ws (place + 1)) (low-coefficient (getD ws (place + 1) 0) behind-valid)
+  behind-low = rw (part-word ws (place + 1)) (low-coefficient (getD ws (place + 1) 0) behind-valid)
 
   pub behind-read : {r : Figure} → r ≡ figure-of (quantity (word-from ws (place + 1))) → SlowRead (t .manner) r
   behind-read e = record {
     rate = quantity (getD ws (place + 1) 0);
     manner = behind-is;
     valid = behind-valid;
-    rate-is = rw (word-is ws (place + 1)) at e;
+    rate-is = rw (part-word ws (place + 1)) at e;
   }
 
 -- ---- they are in range

@@ -14,6 +14,7 @@ ghost use Rattle.bounds.specs.Tables.{Classed, Tabled, net-of, described
 ghost use Rattle.bounds.specs.Deaths.{path-of, Known, LastStep, step-class, SharedAt, SharedBy, SharedSized, own-grains, death-lower};
 use crate::pack::unpack;
 use crate::states::wide;
+use crate::states::word_of;
 use figure::Figure;
 use model::words::is_fast;
 use model::words::origin;
@@ -43,7 +44,7 @@ fn left_by(words: &[u32], places: &[u16; 4000], means: &[u64; 1001], j: usize) -
     ensures { λ r. ⌜ r .class ≡ tables.class-number (step-class (net-of (now (words .entry))) j) ⌝ }
     ensures { λ r. ⌜ r .state ≡ (transition (net-of (now (words .entry))) j) .from ⌝ }
 {
-    let w = words[wide(places[j])];
+    let w = word_of(words, places, j);
     let state = origin(w);
     let class = class_of(is_fast(w), means[state]);
     Leaving { class, state }

@@ -12,6 +12,7 @@ use crate::pack::pack;
 use figure::Figure;
 use model::words::is_fast;
 use model::words::quantity_at;
+use model::words::word_at;
 
 // E, h rounded up, h rounded down (h') and H of a state.
 pub struct Sums {
@@ -19,6 +20,15 @@ pub struct Sums {
     pub mean: Figure,
     pub floor: Figure,
     pub moment: Figure,
+}
+
+// The word of the transition j, from the part of the words that begins at its place.
+pub(crate) fn word_of(words: &[u32], places: &[u16; 4000], j: usize) -> u32
+    requires { ⌜ (j < 4000) × (getD (now places) j 0 < length (now words)) ⌝ }
+    ensures { λ r. ⌜ r ≡ getD (now (words .entry)) (getD (now (places .entry)) j 0) 0 ⌝ }
+{
+    let at = wide(places[j]);
+    word_at(&words[at..])
 }
 
 // The figure of the quantity that a part of the words begins with.

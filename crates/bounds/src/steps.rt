@@ -17,6 +17,7 @@ use crate::states::wide;
 use figure::Figure;
 use model::words::is_fast;
 use model::words::origin;
+use model::words::word_at;
 
 // An exit's rate or probability, its grains and its factor in a lower.
 pub struct Step {
@@ -93,7 +94,7 @@ fn class3_step(part: &[u32], rate: Figure, mean: Figure, moment: Figure, time: F
     }
 }
 
-// The step of the transition j of a model; its word stands at `at`.
+// The step of the transition j of a model.
 fn step_at(
     words: &[u32],
     places: &[u16; 4000],
@@ -107,7 +108,7 @@ fn step_at(
     ensures { λ r. ⌜ r ≡ by.step-of (net-of (now (words .entry))) (transition (net-of (now (words .entry))) j) ⌝ }
 {
     let at = wide(places[j]);
-    let w = words[at];
+    let w = word_at(&words[at..]);
     let s = origin(w);
     let rate = unpack(rates[s]);
     if is_fast(w) {

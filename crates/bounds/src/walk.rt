@@ -10,6 +10,7 @@ use crate::lower::class_of;
 use crate::pack::unpack;
 use crate::states::small;
 use crate::states::wide;
+use crate::states::word_of;
 use crate::visit::is_continued;
 use crate::visit::judge;
 use crate::visit::no_cache;
@@ -109,7 +110,7 @@ fn exit_at(
     let s = tip.state;
     let x = slots[s * 16 + i];
     let j = wide(x);
-    let w = words[wide(places[j])];
+    let w = word_of(words, places, j);
     let mean = means[s];
     let class = class_of(is_fast(w), mean);
     let next = next_tip(tip, class, target(w), unpack(shares[j]), unpack(mean), time);

@@ -7,32 +7,16 @@ use Rattle.bounds.proofs.Classes.{index-small, place-inside, origin-sma
 use Rattle.bounds.proofs.lower.left_by.Statement.{statement}
 use Rattle.bounds.proofs.lower.left_by.Tie as tie
 
--- the function's entry, from where the word's place is known
-abbrev start : tie.After-wide → tie.Start
-start c = c .before .before .before
+-- the function's entry, from where its word is known
+abbrev start : tie.After-word-of → tie.Start
+start c = c .before .before
 
 state-is : (c : tie.After-origin)
-    → let a = start (c .before .before) .args in c .origin .result ≡ (transition (net-of (a .words .now)) (a .j)) .from
-state-is c =
-    let d = c .before .before in
-    state-read (start d .pre .0) (start d .pre .1) (d .wide .ensures .0) (c .origin .ensures .0)
+    → let a = start (c .before) .args in c .origin .result ≡ (transition (net-of (a .words .now)) (a .j)) .from
+state-is c = let s = start (c .before) in state-read (s .pre .0) (s .pre .1) (c .before .word-of .ensures) (c .origin .ensures .0)
 
-mul-wide : tie.Need-mul-wide
-mul-wide c = search needs
-
-element-copy-out-wide : tie.Need-element-copy-out-wide
-element-copy-out-wide c = index-small (c .before .pre .0 .valid) (c .before .pre .1)
-
-wide-requires : tie.Need-wide-requires
-wide-requires c κs = search needs
-
-mul-w : tie.Need-mul-w
-mul-w c = search needs
-
-shared-slice-read-w : tie.Need-shared-slice-read-w
-shared-slice-read-w c =
-    let d = c .before in
-    rw (d .wide .ensures .0) (place-inside (start d .pre .0) (start d .pre .1))
+word-of-requires : tie.Need-word-of-requires
+word-of-requires c κs = let h = c .before .pre in (index-small (h .0 .valid) (h .1), place-inside (h .0) (h .1))
 
 origin-requires : tie.Need-origin-requires
 origin-requires c κs = search needs
@@ -45,7 +29,7 @@ mul-class-of c = search needs
 
 element-copy-out-class-of : tie.Need-element-copy-out-class-of
 element-copy-out-class-of c =
-    let s = start (c .before .before .before) in
+    let s = start (c .before .before) in
     rw (state-is (c .before)) (origin-small (s .pre .0) (s .pre .1))
 
 class-of-requires : tie.Need-class-of-requires
@@ -54,8 +38,9 @@ class-of-requires c κs = search needs
 returns : tie.Need-returns
 returns c =
     let state = c .before .before .before in
-    let d = state .before .before in (
-      code-read (start d .pre .0) (start d .pre .1) (d .wide .ensures .0) (state .origin .ensures .0) (c .before .before .is-fast .ensures) (c .class-of .ensures),
+    let w = state .before in
+    let s = start w in (
+      code-read (s .pre .0) (s .pre .1) (w .word-of .ensures) (state .origin .ensures .0) (c .before .before .is-fast .ensures) (c .class-of .ensures),
       state-is state,
     )
 
@@ -63,11 +48,7 @@ pub left-by-spec : {M : Type 1} → statement M
 left-by-spec =
     tie.close
     (tie.spec
-    mul-wide
-    element-copy-out-wide
-    wide-requires
-    mul-w
-    shared-slice-read-w
+    word-of-requires
     origin-requires
     is-fast-requires
     mul-class-of

@@ -1,5 +1,6 @@
 -- `steps::step_at` meets its contract: the step of the transition's class, from its words and from the tables' entries of the state that it
 -- leaves. Assumes nothing.
+use Prim.Native.Nat.{ℕ}
 use mathlib.Core.Path.{_≡_, sym, ap, _∙_}
 use mathlib.Core.Bool.{true, false}
 use native.Mathlib.Nat.{pos-of-ne-zero}
@@ -8,9 +9,10 @@ use borrow.Author.Needs.{needs}
 use lib.Dec.{eqb}
 use lib.ListN.{getD}
 use Rattle.model.specs.Model.{is-fast}
-use Rattle.model.specs.Words.{kind}
+use Rattle.model.specs.Words.{kind, from-field}
 use Rattle.model.specs.Index.{transition}
 use Rattle.bounds.specs.Tables.{net-of}
+use Rattle.model.proofs.Steps.{part-word}
 use Rattle.bounds.proofs.Firsts.{Placed, placed-inside, placed-first, placed-manner, placed-fast, behind-low}
 use Rattle.bounds.proofs.StepPlaces.{Leaves, time-in-range, time-positive, step-placed, step-leaves, found-fast, found-lone, found-slow}
 use Rattle.bounds.proofs.steps.step_at.Statement.{statement}
@@ -20,25 +22,32 @@ abbrev start : tie.After-wide → tie.Start
 start c = c .before .before .before
 
 abbrev found-place : tie.After-is-fast → tie.After-wide
-found-place c = c .before .before .before .before .before
+found-place c = c .before .before .before .before .before .before
 
 -- the transition's place, and the state that it leaves
 
 placed : (c : tie.After-wide) → let s = start c in Placed (s .args .words .now) (transition (net-of (s .args .words .now)) (s .args .j)) (c .wide .result)
 placed c = let s = start c in step-placed (s .pre .0) (s .pre .1) (c .wide .ensures .0)
 
-leaves : (c : tie.After-origin) → let s = start (c .before .before) in
+word-read : (c : tie.After-word-at) → let w = c .before .before in c .word-at .result ≡ getD (start w .args .words .now) (w .wide .result) 0
+word-read c = let w = c .before .before in c .word-at .ensures ∙ part-word (start w .args .words .now) (w .wide .result)
+
+leaves : (c : tie.After-origin) → let s = start (c .before .before .before) in
     Leaves (s .args .words .now) (s .args .rates .now) (s .args .floors .now) (s .args .moments .now)
     (transition (net-of (s .args .words .now)) (s .args .j)) (c .origin .result)
-leaves c = let w = c .before .before in let s = start w in step-leaves (s .pre .0) (s .pre .1) (w .wide .ensures .0) (c .origin .ensures .0)
+leaves c = let w = c .before .before .before in let s = start w in
+    step-leaves (s .pre .0) (s .pre .1) (w .wide .ensures .0) (c .origin .ensures .0 ∙ ap from-field (word-read (c .before)))
 
 -- the test of the word's kind, in each arm
 
+seven-read : (c : tie.After-is-fast) → let w = found-place c in eqb (kind (getD (start w .args .words .now) (w .wide .result) 0)) 7 ≡ c .is-fast .result
+seven-read c = sym (c .is-fast .ensures ∙ ap (λ (x : ℕ). eqb (kind x) 7) (word-read (c .before .before .before .before)))
+
 is-seven : (c : tie.Then1) → let w = found-place (c .before) in eqb (kind (getD (start w .args .words .now) (w .wide .result) 0)) 7 ≡ true
-is-seven c = sym (c .before .is-fast .ensures) ∙ c .if1 .taken
+is-seven c = seven-read (c .before) ∙ c .if1 .taken
 
 not-seven : (c : tie.Else1) → let w = found-place (c .before) in eqb (kind (getD (start w .args .words .now) (w .wide .result) 0)) 7 ≡ false
-not-seven c = sym (c .before .is-fast .ensures) ∙ c .if1 .left
+not-seven c = seven-read (c .before) ∙ c .if1 .left
 
 mul-wide : tie.Need-mul-wide
 mul-wide c = search needs
@@ -49,11 +58,20 @@ element-copy-out-wide c = search needs
 wide-requires : tie.Need-wide-requires
 wide-requires c κs = search needs
 
-mul-w : tie.Need-mul-w
-mul-w c = search needs
+mul-word-at : tie.Need-mul-word-at
+mul-word-at c = search needs
 
-shared-slice-read-w : tie.Need-shared-slice-read-w
-shared-slice-read-w c = omega (arith, placed-inside (placed (c .before)))
+sub-word-at : tie.Need-sub-word-at
+sub-word-at c = omega (arith, placed-inside (placed c))
+
+part-word-at-start : tie.Need-part-word-at-start
+part-word-at-start c = omega (arith, placed-inside (placed c))
+
+part-word-at-end : tie.Need-part-word-at-end
+part-word-at-end c = search needs
+
+word-at-requires : tie.Need-word-at-requires
+word-at-requires c κs = search needs
 
 origin-requires : tie.Need-origin-requires
 origin-requires c κs = search needs
@@ -175,8 +193,11 @@ step-at-spec =
     mul-wide
     element-copy-out-wide
     wide-requires
-    mul-w
-    shared-slice-read-w
+    mul-word-at
+    sub-word-at
+    part-word-at-start
+    part-word-at-end
+    word-at-requires
     origin-requires
     mul-unpack
     element-copy-out-unpack

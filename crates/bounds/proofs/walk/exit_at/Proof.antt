@@ -1,7 +1,8 @@
 -- `exit_at` meets its contract. Assumes nothing.
 use native.Mathlib.Omega.{arith}
 use borrow.Author.Needs.{needs}
-use Rattle.bounds.proofs.Exits.{state-small, slot-inside, time-sized, mean-sized, exit-share-sized, word-inside, exit-of}
+use Rattle.bounds.proofs.Classes.{index-small}
+use Rattle.bounds.proofs.Exits.{state-small, slot-inside, time-sized, mean-sized, exit-share-sized, exit-inside, exit-of}
 use Rattle.bounds.proofs.walk.exit_at.Statement.{statement}
 use Rattle.bounds.proofs.walk.exit_at.Tie as tie
 
@@ -20,28 +21,16 @@ element-copy-out-x c = slot-inside (c .before .pre)
 wide-requires : tie.Need-wide-requires
 wide-requires c κs = search needs
 
-mul-wide : tie.Need-mul-wide
-mul-wide c = search needs
-
-element-copy-out-wide : tie.Need-element-copy-out-wide
-element-copy-out-wide c = search needs
-
-wide-requires-2 : tie.Need-wide-requires-2
-wide-requires-2 c κs = search needs
-
-mul-w : tie.Need-mul-w
-mul-w c = search needs
-
-shared-slice-read-w : tie.Need-shared-slice-read-w
-shared-slice-read-w c =
-    let a = c .before in
-    word-inside (a .before .before .before .before .before .pre) (a .before .before .wide .ensures .0) (a .wide2 .ensures .0)
+word-of-requires : tie.Need-word-of-requires
+word-of-requires c κs =
+    let h = c .before .before .before .pre in
+    (rw (c .wide .ensures .0) (index-small (h .classed .valid) (h .index)), exit-inside h (c .wide .ensures .0))
 
 mul-mean : tie.Need-mul-mean
-mul-mean c = omega (arith, state-small (c .before .before .before .before .before .before .pre))
+mul-mean c = omega (arith, state-small (c .before .before .before .before .pre))
 
 element-copy-out-mean : tie.Need-element-copy-out-mean
-element-copy-out-mean c = state-small (c .before .before .before .before .before .before .pre)
+element-copy-out-mean c = state-small (c .before .before .before .before .pre)
 
 is-fast-requires : tie.Need-is-fast-requires
 is-fast-requires c κs = search needs
@@ -66,7 +55,7 @@ unpack-requires-2 c κs = search needs
 
 next-tip-requires : tie.Need-next-tip-requires
 next-tip-requires c κs =
-    let w = c .before .before .before .before .before .before .before .before .before .before in
+    let w = c .before .before .before .before .before .before .before .before in
     let h = w .before .before .before .pre in
     (h .upper, exit-share-sized h (w .wide .ensures .0) (c .before .unpack .ensures), mean-sized h (c .unpack2 .ensures), time-sized h, h .ones, h .room)
 
@@ -74,9 +63,9 @@ returns : tie.Need-returns
 returns c =
     let u = c .before in
     let f = u .before .before .before .before .before in
-    let a = f .before .before .before in
-    let w = a .before .before in
-    exit-of (w .before .before .before .pre) (w .wide .ensures .0) (a .wide2 .ensures .0)
+    let a = f .before .before in
+    let w = a .before in
+    exit-of (w .before .before .before .pre) (w .wide .ensures .0) (a .word-of .ensures)
     (f .is-fast .ensures) (u .before .before .before .before .class-of .ensures) (u .before .before .before .target .ensures .0)
     (u .before .unpack .ensures) (u .unpack2 .ensures) (c .next-tip .ensures)
 
@@ -89,11 +78,7 @@ exit-at-spec =
     mul-x-2
     element-copy-out-x
     wide-requires
-    mul-wide
-    element-copy-out-wide
-    wide-requires-2
-    mul-w
-    shared-slice-read-w
+    word-of-requires
     mul-mean
     element-copy-out-mean
     is-fast-requires
