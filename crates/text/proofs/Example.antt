@@ -1,9 +1,12 @@
--- The definitions agree with document 01's example: by computing them. Assumes nothing.
-use mathlib.Core.Path.{refl}
+-- The definitions agree with document 01's examples: by computing them. Model A's report is computed in crates/tree/proofs/ModelA.antt. Assumes nothing.
+use mathlib.Core.Path.{refl, ap}
+use Rattle.model.specs.Reading.{then, at-words-end, read-from, first-of, read}
+use Rattle.tree.specs.Report.{answer}
+use Rattle.tree.proofs.ModelA.{answer-A}
 use Rattle.text.specs.Bytes.{words-of}
 use Rattle.text.specs.Text.{digits-within, last-digits, signed-decimal, figure-text, answer-text}
 use Rattle.text.specs.Example.{AsDocumented}
 
 pub as-documented : AsDocumented
-unfolding words-of digits-within last-digits signed-decimal figure-text answer-text
-as-documented = record { words-A = refl; text-A = refl; text-F = refl }
+unfolding words-of digits-within last-digits signed-decimal figure-text answer-text answer read first-of then read-from at-words-end
+as-documented = record { words-A = refl; text-A = ap answer-text answer-A; text-F = refl; words-left-over = refl }

@@ -1,4 +1,5 @@
 pub mod Marked
+pub mod ModelA
 pub mod Least
 pub mod Positive
 pub mod Lists
