@@ -3,22 +3,24 @@
 use mathlib.Core.Bool.{Bool, true, false, not}
 use mathlib.Core.List.{List, [], _∷_, _++_}
 use Prim.Native.Nat.{ℕ, _+_, _^_, _<_}
-use native.Mathlib.Omega.{arith, patom, plit}
+use native.Mathlib.Omega.{arith, patom}
 use lib.Dec.{T, leb, nleb→lt}
 use Rattle.fraction.specs.Fraction.{Fraction, whole, _+ᶠ_, _-ᶠ_, _*ᶠ_, _/ᶠ_}
-use Rattle.fraction.proofs.Ratio.{Ratio, _≈_, ofℕ, _⊕_, _⊗_, _⊖_, ≈-refl, ≈-sym, ≈-trans, ⊕-cong, ⊗-cong, ⊗-assoc, ⊕-comm, ⊕-zero}
+use Rattle.fraction.proofs.Ratio.{Ratio, _≈_, ofℕ, _⊕_, _⊗_, _⊖_, ≈-refl, ≈-sym, ≈-trans, ⊕-cong, ⊗-cong, ⊗-assoc, ⊗-one, ⊕-comm, ⊕-zero, ⊖-cong}
 use Rattle.fraction.proofs.Certificate.{_*'_, same-value}
 use Rattle.fraction.proofs.Inverse.{inv, inv-cong, inv-⊗, inv-inv}
-use Rattle.fraction.proofs.Powers.{pow, pow-⊗, pow-inv, pow-ofℕ}
+use Rattle.fraction.proofs.Powers.{pow, pow-two, pow-⊗, pow-inv, pow-ofℕ}
 use Rattle.model.specs.declared.Quantity.{Quantity}
 use Rattle.model.specs.Model.{Manner, slow, fast, Transition, Net, any}
 use Rattle.tree.specs.Paths.{Path, Class, class1, class2, class3, class, class1-count}
 use Rattle.tree.specs.Grains.{grain-sum}
 use Rattle.accuracy.specs.States.{exact-rate-sum, exact-mean, exact-moment-sum}
-use Rattle.accuracy.specs.Bounds.{product, class1-rates, power-over-factorial, grain-time, time-left, class2-exact-factor, class3-exact-factor, lower-factor, lower-factors, class1-sum, exact-path-rate-sum, all-factors, not-positive, exact-lower-with}
-use Rattle.accuracy.proofs.Natural.{_is_, is-≈, is-whole, is-plus, is-product, is-quotient, is-power, _clips-to_, is-clip, clip-≈, clip-minus, clip-twice, clip-product, ⊖-cong, clipped, guarded-is}
-use Rattle.accuracy.proofs.ExactStates.{exactᴺ, exact-is, momentᴺ, moment-is, shareᴺ, share-is, rate-sumᴺ, rate-sum-is, meanᴺ, mean-is, moment-sumᴺ, moment-sum-is, timeᴺ, remaining-timeᴺ, remaining-time-is}
-use Rattle.accuracy.proofs.ExactSteps.{one-times, ratesᴺ, rates-is, over-factorialᴺ, over-factorial-is, beside-class1, factorsᴺ, closedᴺ, steppedᴺ, closed-stepped}
+use Rattle.accuracy.specs.Bounds.{product, class1-rates, power-over-factorial, grain-time, time-left, class2-exact-factor, class3-exact-factor}
+use Rattle.accuracy.specs.Bounds.{lower-factor, lower-factors, class1-sum, exact-path-rate-sum, all-factors, not-positive, exact-lower-with}
+use Rattle.accuracy.proofs.Natural.{_is_, is-≈, is-whole, is-plus, is-product, is-quotient, is-power, _clips-to_, is-clip, clip-≈, clip-minus, clip-twice, clip-product, clipped, guarded-is}
+use Rattle.accuracy.proofs.ExactStates.{exactᴺ, exact-is, momentᴺ, moment-is, shareᴺ, share-is, rate-sumᴺ, rate-sum-is, meanᴺ}
+use Rattle.accuracy.proofs.ExactStates.{mean-is, moment-sumᴺ, moment-sum-is, timeᴺ, remaining-timeᴺ, remaining-time-is}
+use Rattle.accuracy.proofs.ExactSteps.{ratesᴺ, rates-is, over-factorialᴺ, over-factorial-is, beside-class1, factorsᴺ, closedᴺ, steppedᴺ, closed-stepped}
 
 -- ---- what is taken off, with the grains as document 01 rounds it: r = n × T / 1,000,000 divides as n × T does, times 1,000,000
 
@@ -51,11 +53,8 @@ by-square net n x = ≈-trans (⊗-cong (≈-refl x) inside) (≈-sym (⊗-assoc
     c : Ratio
     c = ofℕ 1000000
 
-    square : (y : Ratio) → pow y 2 ≈ y ⊗ y
-    square y = unfold pow in same-value (y ∷ []) (patom 0 *' (patom 0 *' plit 1)) (patom 0 *' patom 0) tt tt
-
     squares : pow (ofℕ n ⊗ timeᴺ net) 2 ≈ ofℕ (n ^ 2) ⊗ (timeᴺ net ⊗ timeᴺ net)
-    squares = ≈-trans (pow-⊗ (ofℕ n) (timeᴺ net) 2) (⊗-cong (pow-ofℕ n 2) (square (timeᴺ net)))
+    squares = ≈-trans (pow-⊗ (ofℕ n) (timeᴺ net) 2) (⊗-cong (pow-ofℕ n 2) (pow-two (timeᴺ net)))
 
     inside : inv (pow (ofℕ n ⊗ timeᴺ net ⊗ inv c) 2) ≈ inv (ofℕ (n ^ 2) ⊗ (timeᴺ net ⊗ timeᴺ net)) ⊗ ofℕ (10 ^ 12)
     inside = ≈-trans (inv-cong (≈-trans (pow-⊗ (ofℕ n ⊗ timeᴺ net) (inv c) 2) (⊗-cong squares (pow-inv c 2))))
@@ -99,7 +98,7 @@ factors-clip net g (x ∷ p) = go (class net x) (factors-clip net g p)
     go : (c : Class) → clipped (lower-factors net g p) ≈ factorsᴺ net (lower-valueᴺ net g) p
         → clipped (lower-factor net c (g x) x ++ lower-factors net g p)
         ≈ beside-class1 c (lower-valueᴺ net g c x) ⊗ factorsᴺ net (lower-valueᴺ net g) p
-    go class1 h = ≈-trans h (one-times _)
+    go class1 h = ≈-trans h (≈-sym (⊗-one _))
     go class2 h = ⊗-cong (class2-clips net (x .from) (x .manner) (g x) .clip) h
     go class3 h = ⊗-cong (class3-clips net (x .from) (x .manner) (g x) .clip) h
 

@@ -5,10 +5,10 @@ use mathlib.Core.List.{List, [], _∷_}
 use Prim.Native.Nat.{ℕ, _^_, _≤_}
 use native.Mathlib.Omega.{arith, patom, plit}
 use Rattle.fraction.specs.Fraction.{Fraction, whole, _-ᶠ_}
-use Rattle.fraction.proofs.Ratio.{Ratio, _≼_, _≈_, ofℕ, _⊕_, _⊗_, _⊖_, ≈-refl, ≈-le, ⊕-cong, ⊖-cap, ofℕ-≼, ofℕ-pos}
-use Rattle.fraction.proofs.Certificate.{_*'_, same-value, prove, hyp}
+use Rattle.fraction.proofs.Ratio.{Ratio, _≼_, ofℕ, _⊕_, _⊗_, _⊖_, ≈-refl, ≈-le, ⊕-cong, ⊖-cap, ofℕ-≼, ofℕ-pos}
+use Rattle.fraction.proofs.Certificate.{_*'_, prove, hyp}
 use Rattle.fraction.proofs.Inverse.{inv, inv-is, _over_}
-use Rattle.fraction.proofs.Powers.{pow}
+use Rattle.fraction.proofs.Powers.{pow-two}
 use Rattle.fraction.proofs.Signed.{signed-ratio, signed-⊖, signed-whole}
 use Rattle.model.specs.declared.Quantity.{Quantity}
 use Rattle.model.specs.Model.{Manner, slow, fast, Transition, Net, exits}
@@ -33,10 +33,7 @@ momentᴺ m d = exactᴺ m ⊗ exactᴺ m ⊕ exactᴺ d ⊗ exactᴺ d
 
 pub moment-is : (m d : Quantity) → moment m d is momentᴺ m d
 unfolding moment momentᴺ
-moment-is m d = is-≈ (⊕-cong (square (exactᴺ m)) (square (exactᴺ d))) (is-plus (is-power 2 (exact-is m)) (is-power 2 (exact-is d)))
-  where
-    square : (x : Ratio) → pow x 2 ≈ x ⊗ x
-    square x = unfold pow in same-value (x ∷ []) (patom 0 *' (patom 0 *' plit 1)) (patom 0 *' patom 0) tt tt
+moment-is m d = is-≈ (⊕-cong (pow-two (exactᴺ m)) (pow-two (exactᴺ d))) (is-plus (is-power 2 (exact-is m)) (is-power 2 (exact-is d)))
 
 abbrev pub shareᴺ : Manner → Ratio
 shareᴺ (slow r) = exactᴺ r

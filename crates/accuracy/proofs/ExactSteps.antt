@@ -6,7 +6,7 @@ use mathlib.Core.List.{[], _∷_, _++_}
 use Prim.Native.Nat.{ℕ, suc, _+_}
 use native.Mathlib.Omega.{arith, patom, plit}
 use Rattle.fraction.specs.Fraction.{Fraction}
-use Rattle.fraction.proofs.Ratio.{Ratio, _≈_, ofℕ, _⊗_, ≈-refl, ≈-trans, ⊗-cong, ofℕ-⊗}
+use Rattle.fraction.proofs.Ratio.{Ratio, _≈_, ofℕ, _⊗_, ≈-refl, ≈-sym, ≈-trans, ⊗-cong, ⊗-one, ofℕ-⊗}
 use Rattle.fraction.proofs.Certificate.{_*'_, same-value}
 use Rattle.fraction.proofs.Inverse.{inv, inv-cong, inv-⊗, _over_}
 use Rattle.fraction.proofs.Powers.{pow}
@@ -48,9 +48,6 @@ unfoldable pub ratesᴺ : Net → Path → Ratio
 ratesᴺ net [] = ofℕ 1
 ratesᴺ net (x ∷ p) = rateᴺ (class net x) (x .manner) ⊗ ratesᴺ net p
 
-pub one-times : (r : Ratio) → r ≈ ofℕ 1 ⊗ r
-one-times r = same-value (r ∷ []) (patom 0) (plit 1 *' patom 0) tt tt
-
 pub rates-is : (net : Net) (p : Path) → product (class1-rates net p) is ratesᴺ net p
 unfolding product class1-rates ratesᴺ
 rates-is net [] = is-whole 1
@@ -59,8 +56,8 @@ rates-is net (x ∷ p) = go (class net x) (rates-is net p)
     go : (c : Class) → product (class1-rates net p) is ratesᴺ net p
         → product (class1-rate c (x .manner) ++ class1-rates net p) is rateᴺ c (x .manner) ⊗ ratesᴺ net p
     go class1 h = is-product (share-is (x .manner)) h
-    go class2 h = is-≈ (one-times _) h
-    go class3 h = is-≈ (one-times _) h
+    go class2 h = is-≈ (≈-sym (⊗-one _)) h
+    go class3 h = is-≈ (≈-sym (⊗-one _)) h
 
 -- ---- the factors of the class 2 and 3 steps; f gives each step's
 

@@ -1,13 +1,13 @@
 -- The exact upper of a path, step by step and with a natural numerator: "class 1 .. rates times T^k / k!, times q for each class 2 step, times
 -- rate × h for each class 3 step". Assumes nothing.
 use mathlib.Core.List.{[], _∷_, _++_}
-use Rattle.fraction.proofs.Ratio.{Ratio, ofℕ, _⊗_}
+use Rattle.fraction.proofs.Ratio.{Ratio, ofℕ, _⊗_, ≈-sym, ⊗-one}
 use Rattle.model.specs.Model.{Transition, Net}
 use Rattle.tree.specs.Paths.{Path, Class, class1, class2, class3, class, class1-count}
 use Rattle.accuracy.specs.Bounds.{product, upper-factor, upper-factors, exact-upper}
 use Rattle.accuracy.proofs.Natural.{_is_, is-≈, is-whole, is-product}
 use Rattle.accuracy.proofs.ExactStates.{exact-is, shareᴺ, share-is, meanᴺ, mean-is, timeᴺ}
-use Rattle.accuracy.proofs.ExactSteps.{one-times, rates-is, over-factorial-is, beside-class1, factorsᴺ, closedᴺ, steppedᴺ, closed-stepped}
+use Rattle.accuracy.proofs.ExactSteps.{rates-is, over-factorial-is, beside-class1, factorsᴺ, closedᴺ, steppedᴺ, closed-stepped}
 
 -- what a class 2 or 3 step brings
 abbrev pub upper-valueᴺ : Net → Class → Transition → Ratio
@@ -25,7 +25,7 @@ factors-is net (x ∷ p) = go (class net x) (factors-is net p)
   where
     go : (c : Class) → product (upper-factors net p) is factorsᴺ net (upper-valueᴺ net) p
         → product (upper-factor net c x ++ upper-factors net p) is beside-class1 c (upper-valueᴺ net c x) ⊗ factorsᴺ net (upper-valueᴺ net) p
-    go class1 h = is-≈ (one-times _) h
+    go class1 h = is-≈ (≈-sym (⊗-one _)) h
     go class2 h = is-product (share-is (x .manner)) h
     go class3 h = is-product (is-product (share-is (x .manner)) (mean-is net (x .from))) h
 

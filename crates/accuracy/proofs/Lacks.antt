@@ -5,7 +5,8 @@ use mathlib.Core.List.{[], _∷_}
 use mathlib.Core.Logic.{⊎-elim}
 use Prim.Native.Nat.{ℕ, suc, _+_, _^_}
 use native.Mathlib.Omega.{patom, plit}
-use Rattle.fraction.proofs.Ratio.{Ratio, _≼_, _≈_, ofℕ, _⊕_, _⊗_, _⊖_, ≼-refl, ≼-trans, ≼-or, ≈-refl, ≈-trans, ≈-le, ≈-ge, ⊕-mono, ⊕-cong, ⊗-mono, ⊗-cong, ⊗-one, ⊗-cancel, ofℕ-⊕, ⊖-le, ⊖-adj, ⊖-mono, ⊖-cap, ⊖-none, ofℕ-pos, ≼-⊕}
+use Rattle.fraction.proofs.Ratio.{Ratio, _≼_, _≈_, ofℕ, _⊕_, _⊗_, _⊖_, ≼-refl, ≼-trans, ≼-or, ≈-refl, ≈-trans, ≈-le, ≈-ge, ⊕-mono}
+use Rattle.fraction.proofs.Ratio.{⊕-cong, ⊗-mono, ⊗-cong, ⊗-one, ⊗-cancel, ofℕ-⊕, ⊖-le, ⊖-adj, ⊖-mono, ⊖-cap, ⊖-none, ofℕ-pos, ≼-⊕}
 use Rattle.fraction.proofs.Certificate.{_+'_, _*'_, prove, same-value, hyp}
 use Rattle.fraction.proofs.Within.{Within}
 use Rattle.fraction.proofs.Signed.{signed}

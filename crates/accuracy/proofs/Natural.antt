@@ -10,13 +10,12 @@ use native.Mathlib.Omega.{arith}
 use lib.IntN.{ℤ, pos, negsuc, negℤ, _*ℤ_}
 use Rattle.fraction.specs.Fraction.{Fraction, _≈ᶠ_, whole, _+ᶠ_, _-ᶠ_, _*ᶠ_, _/ᶠ_, _^ᶠ_}
 use Rattle.fraction.proofs.Integers.{natural}
-use Rattle.fraction.proofs.Ratio.{Ratio, _≈_, ofℕ, _⊕_, _⊗_, _⊖_, ≈-refl, ≈-sym, ≈-trans, ≈-le, ≈-ge, ≼-antisym, ⊕-cong, ⊗-cong, ⊖-mono, num-zero}
+use Rattle.fraction.proofs.Ratio.{Ratio, _≈_, ofℕ, _⊕_, _⊗_, _⊖_, ≈-refl, ≈-sym, ≈-trans, ≼-antisym, ⊕-cong, ⊗-cong, ⊖-cong, num-zero}
 use Rattle.fraction.proofs.Inverse.{inv, inv-cong}
 use Rattle.fraction.proofs.Powers.{pow, pow-cong}
-use Rattle.fraction.proofs.Signed.{signed, nonnegative, nonnegative-signed, nonnegative-minus, signed-nonnegative, signed-whole, signed-⊕, signed-⊗, signed-quotient, signed-pow}
+use Rattle.fraction.proofs.Signed.{signed, nonnegative, nonnegative-signed, nonnegative-≼, nonnegative-none}
+use Rattle.fraction.proofs.Signed.{nonnegative-minus, signed-nonnegative, signed-whole, signed-⊕, signed-⊗, signed-quotient, signed-pow}
 use Rattle.fraction.proofs.Laws.{≤ᶠ-or, at-most-iff, ≈ᶠ-≤, ≈ᶠ-≥, -ᶠ--ᶠ}
-use Rattle.figure.proofs.Nonnegative.{nonnegative-≼}
-use Rattle.figure.proofs.Nonnegative as Nonnegative
 use Rattle.model.specs.Model.{any}
 use Rattle.model.proofs.Members.{neither}
 use Rattle.accuracy.specs.Bounds.{product, not-positive}
@@ -80,9 +79,6 @@ is-kept p = rw (p .equal, nonnegative-signed (p .held)) refl
 pub clip-≈ : {x : Fraction} {r s : Ratio} → r ≈ s → x clips-to r → x clips-to s
 clip-≈ e p = record { clip = ≈-trans (p .clip) e }
 
-pub ⊖-cong : {x x′ y y′ : Ratio} → x ≈ x′ → y ≈ y′ → x ⊖ y ≈ x′ ⊖ y′
-⊖-cong p q = ≼-antisym (⊖-mono (≈-le p) (≈-ge q)) (⊖-mono (≈-ge p) (≈-le q))
-
 pub clip-minus : {x y : Fraction} {r s : Ratio} → x is r → y is s → x -ᶠ y clips-to r ⊖ s
 clip-minus p q = record { clip = rw (p .equal, q .equal, nonnegative-minus (p .held) (q .held)) (⊖-cong (p .same) (q .same)) }
 
@@ -120,7 +116,7 @@ clipped (x ∷ xs) = nonnegative x ⊗ clipped xs
 
 -- a factor that is zero or negative is clipped to 0
 clip-zero : (x : Fraction) → not-positive x ≡ true → (nonnegative x) .num ≡ 0
-clip-zero x e = Nonnegative.not-positive x (at-most-iff x (whole 0) .0 (rw e tt))
+clip-zero x e = nonnegative-none x (at-most-iff x (whole 0) .0 (rw e tt))
 
 -- any other is what it was
 clip-keeps : (x : Fraction) → not-positive x ≡ false → x ≡ signed (nonnegative x)

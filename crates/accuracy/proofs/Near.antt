@@ -4,18 +4,18 @@ use native.Mathlib.Nat.{zero-lt-suc}
 use native.Mathlib.Omega.{arith}
 use lib.IntN.{pos}
 use Rattle.fraction.proofs.Ratio.{Ratio, _≈_, ofℕ, _⊕_, _⊗_, ≈-refl, ≈-sym, ⊗-cong, ofℕ-pos}
-use Rattle.fraction.proofs.Inverse.{inv, _over_}
+use Rattle.fraction.proofs.Inverse.{inv}
 use Rattle.fraction.proofs.PowersOfTen.{ten-to, ten-nat}
 use Rattle.fraction.proofs.Within.{Within, within-inv}
-use Rattle.fraction.proofs.Signed.{signed, signed-ratio, ≈-signed}
+use Rattle.fraction.proofs.Signed.{signed}
 use Rattle.figure.specs.declared.Figure.{Figure}
 use Rattle.figure.specs.Rounding.{up}
-use Rattle.figure.specs.Operations.{times-up, plus-up, divided-up, times-ten, of-whole, of-quantity}
-use Rattle.figure.proofs.Value.{val, value-is}
+use Rattle.figure.specs.Operations.{times-up, plus-up, divided-up, times-ten, of-whole}
+use Rattle.figure.proofs.Value.{val}
 use Rattle.figure.proofs.Operations.{value-times, value-plus, value-divided}
-use Rattle.figure.proofs.Exact.{natural-times-ten, of-quantity-exact}
+use Rattle.figure.proofs.Exact.{natural-of-whole, natural-times-ten}
 use Rattle.accuracy.proofs.Roundings.{ρ, rounded-up, roundings-none, roundings-≤, within-≈, roundings-trans, roundings-⊗, roundings-scale, roundings-⊕}
-use Rattle.accuracy.proofs.Under.{Under, under-exact, under-pos, whole-is}
+use Rattle.accuracy.proofs.Under.{Under, under-exact, under-pos}
 
 -- the figure f is x, or above it by at most n roundings; a record, so that n, f and x can be inferred
 pub record Near (n : ℕ) (f : Figure) (x : Ratio) : Type 0 where
@@ -55,7 +55,7 @@ near-divided {m} {n} {a} {b} h p q = rw (value-divided a b) (near-up (m + n) (ro
 -- by a whole number of at most nine digits
 pub near-by-whole : {n : ℕ} {a : Figure} {x : Ratio} (k : ℕ) → suc k < 10 ^ 9 → Near n a x
     → Near (n + 1) (divided-up a (of-whole (suc k))) (x ⊗ inv (ofℕ (suc k)))
-near-by-whole {n} k h p = near-≤ (n + 1) (omega arith) (near-divided (ofℕ-pos (zero-lt-suc k)) p (under-exact (whole-is (suc k) h)))
+near-by-whole {n} k h p = near-≤ (n + 1) (omega arith) (near-divided (ofℕ-pos (zero-lt-suc k)) p (under-exact (natural-of-whole (suc k) h)))
 
 -- ---- what is exact
 
@@ -67,11 +67,7 @@ near-ten {n} {a} {x} k p = record {
 
 -- a whole number of at most nine digits
 pub near-whole : (k : ℕ) → k < 10 ^ 9 → Near 0 (of-whole k) (ofℕ k)
-near-whole k h = near-exact (whole-is k h)
-
--- a quantity of the word table
-pub quantity-is : (c p : ℕ) → c < 10 ^ 9 → val (of-quantity c p) ≈ c over (10 ^ p)
-quantity-is c p h = ≈-signed (rw (value-is (of-quantity c p), ← signed-ratio c (10 ^ p)) at (of-quantity-exact c p h))
+near-whole k h = near-exact (natural-of-whole k h)
 
 -- ---- running sums: each member of a list adds a term that is near, or nothing
 

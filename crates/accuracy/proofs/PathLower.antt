@@ -10,11 +10,12 @@ use native.Mathlib.Omega.{arith}
 use lib.Dec.{T, leb, nleb→lt, lit≤}
 use lib.ListN.{length}
 use Rattle.fraction.specs.Fraction.{Fraction}
-use Rattle.fraction.proofs.Ratio.{Ratio, _≈_, ofℕ, _⊗_, ≈-refl, ≈-trans, ⊗-comm, ⊗-one, ⊗-zero, ⊗-pos, ofℕ-pos}
+use Rattle.fraction.proofs.Ratio.{Ratio, ofℕ, _⊗_, ≈-refl, ⊗-one-right, ⊗-zero, ⊗-pos, ofℕ-pos}
 use Rattle.fraction.proofs.Inverse.{inv}
 use Rattle.figure.specs.declared.Figure.{Figure}
 use Rattle.figure.specs.Rounding.{none, up, down}
 use Rattle.figure.specs.Operations.{times-up, times-down, divided-up, of-whole}
+use Rattle.figure.proofs.Exact.{natural-of-whole}
 use Rattle.model.specs.declared.Quantity.{Quantity}
 use Rattle.model.specs.Model.{Manner, slow, fast, Transition, Net, Model}
 use Rattle.model.proofs.Valid.{Each, InRange, ValidManner, Valid}
@@ -22,8 +23,10 @@ use Rattle.tree.specs.Paths.{Path, Class, class1, class2, class3, class, class1
 use Rattle.tree.specs.States.{mission-time, time-squared, rate-sum}
 use Rattle.tree.specs.Grains.{grain-sum}
 use Rattle.tree.specs.Lower.{remaining-time, class2-loss, class3-loss, class2-factor, class3-factor, lower-step, lower-product, add-rates, path-rate-sum, last-factor, lower-with}
+use Rattle.tree.proofs.Positive.{ValidSteps}
+use Rattle.tree.proofs.Ranges.{class1-count-≤}
 use Rattle.accuracy.proofs.Near.{Near, near-exact, near-≤, near-≈, near-times, near-plus, near-add, near-divided, near-by-whole, near-ten, up-near}
-use Rattle.accuracy.proofs.Under.{Under, under-times, under-whole, whole-is}
+use Rattle.accuracy.proofs.Under.{Under, under-times, under-whole}
 use Rattle.accuracy.proofs.Short.{Short, short-exact, short-none, short-≤, short-cap, short-≈, short-under, down-short, short-times, short-by-whole, short-minus}
 use Rattle.accuracy.proofs.Natural.{_is_}
 use Rattle.accuracy.proofs.ExactStates.{shareᴺ, rate-sumᴺ, meanᴺ, timeᴺ, remaining-timeᴺ, remaining-time-is, remaining-time-≼}
@@ -31,7 +34,7 @@ use Rattle.accuracy.proofs.ExactSteps.{stepᴺ, steppedᴺ}
 use Rattle.accuracy.proofs.ExactUpper.{upper-valueᴺ, upperᴺ}
 use Rattle.accuracy.proofs.ExactLower.{class2-lossᴺ, class3-lossᴺ, class2-valueᴺ, class3-valueᴺ, lower-valueᴺ, add-ratesᴺ, path-rate-sumᴺ, last-valueᴺ, lowerᴺ}
 use Rattle.accuracy.proofs.RoundedStates.{figure-is, quantity-near, quantity-under, quantity-pos, share-figure-is, moment-near, rate-sum-near, mean-under, moment-sum-near}
-use Rattle.accuracy.proofs.PathUpper.{ValidSteps, short-count, count-≤}
+use Rattle.accuracy.proofs.PathUpper.{short-count}
 
 -- a class 2 or 3 step has at least one grain
 abbrev pub Grained : Class → ℕ → Type 0
@@ -44,11 +47,8 @@ GrainedSteps net g p = Each (λ x. Grained (class net x) (g x)) p
 
 -- ---- small laws
 
-times-one : (x : Ratio) → x ⊗ ofℕ 1 ≈ x
-times-one x = ≈-trans (⊗-comm x (ofℕ 1)) (⊗-one x)
-
 short-one : Short 0 (of-whole 1) (ofℕ 1) (ofℕ 1)
-short-one = short-exact (whole-is 1 (lit≤ tt))
+short-one = short-exact (natural-of-whole 1 (lit≤ tt))
 
 down-is-short : {x : Fraction} {t : Ratio} → x is t → Short 1 (down 9 x) t t
 down-is-short p = rw (p .equal) (short-≈ (p .same) (p .same) (down-short (p .held)))
@@ -100,7 +100,7 @@ module _ {m : Model} (valid : Valid m) where
   class2-short : (s : ℕ) (x : Manner) (n : ℕ) → 1 ≤ n → ValidManner x → Short 21 (class2-factor net s x n) (class2-valueᴺ net s x n) (shareᴺ x)
   unfolding class2-factor class2-valueᴺ ValidManner
   class2-short s (slow r) n h v = short-none 21 _
-  class2-short s (fast mean deviation q) n h v = short-≈ (≈-refl _) (times-one _)
+  class2-short s (fast mean deviation q) n h v = short-≈ (≈-refl _) (⊗-one-right _)
       (short-times (short-exact (figure-is (v .1 .1))) (short-minus (omega arith) short-one (class2-loss-near s mean deviation n h (v .0) (v .1 .0))))
 
   class3-short : (s : ℕ) (x : Manner) (n : ℕ) → 1 ≤ n → ValidManner x
@@ -129,7 +129,7 @@ module _ {m : Model} (valid : Valid m) where
     steps-short [] v w l = short-one
     steps-short (x ∷ p) v w l = let e : suc (length p) * 60 ≡ length p * 60 + 60 = omega arith in
         rw e (lower-step-short (class net x) (class1-count net p) (length p * 60) x (lower-product net g t̂ p) _ _
-        (short-count (length p) _ (count-≤ net p) (omega arith)) (v .0) (w .0) (steps-short p (v .1) (w .1) (omega arith)))
+        (short-count (length p) _ (class1-count-≤ net p) (omega arith)) (v .0) (w .0) (steps-short p (v .1) (w .1) (omega arith)))
 
   -- ---- A, and the last factor
 
@@ -155,7 +155,7 @@ module _ {m : Model} (valid : Valid m) where
           (divided-up (times-up (up 9 (remaining-time net n)) (path-rate-sum net p)) (of-whole (class1-count net p + 1)))
           (remaining-timeᴺ net n ⊗ path-rate-sumᴺ net p ⊗ inv (ofℕ (class1-count net p + 1)))
       divided = let e : class1-count net p + 1 ≡ suc (class1-count net p) = omega arith in
-          rw e (near-by-whole (class1-count net p) (short-count (length p) _ (count-≤ net p) l)
+          rw e (near-by-whole (class1-count net p) (short-count (length p) _ (class1-count-≤ net p) l)
           (near-times (up-is-near (remaining-time-is net n h)) (path-rate-sum-near p)))
 
   -- ---- the lower
@@ -185,4 +185,4 @@ module _ {m : Model} (valid : Valid m) where
           let few : n ≤ 1000000 = omega (arith, h tt) in
           let time = short-cap (remaining-time-≼ net n) (down-is-short (remaining-time-is net n few)) in
           let steps = steps-short g (down 9 (remaining-time net n)) t time p v w l in
-          short-≤ 1500 (omega arith) (short-≈ (≈-refl _) (times-one _) (short-times steps (last-short n p few l)))
+          short-≤ 1500 (omega arith) (short-≈ (≈-refl _) (⊗-one-right _) (short-times steps (last-short n p few l)))

@@ -8,33 +8,21 @@ use lib.Dec.{lit≤}
 use lib.ListN.{length}
 use Rattle.fraction.proofs.Ratio.{Ratio, ⊗-assoc}
 use Rattle.figure.specs.declared.Figure.{Figure}
-use Rattle.model.specs.Model.{Transition, Net, Model}
+use Rattle.model.specs.Model.{Transition, Model}
 use Rattle.model.proofs.Valid.{Each, ValidManner, Valid}
 use Rattle.tree.specs.Paths.{Path, Class, class1, class2, class3, class, class1-count, counts-1}
 use Rattle.tree.specs.Upper.{upper-step, upper}
+use Rattle.tree.proofs.Positive.{ValidSteps}
+use Rattle.tree.proofs.Ranges.{class1-count-≤}
 use Rattle.accuracy.proofs.Near.{Near, near-exact, near-≤, near-≈, near-times, near-by-whole, near-whole}
 use Rattle.accuracy.proofs.ExactStates.{timeᴺ}
 use Rattle.accuracy.proofs.ExactSteps.{stepᴺ, steppedᴺ}
 use Rattle.accuracy.proofs.ExactUpper.{upper-valueᴺ, upperᴺ}
 use Rattle.accuracy.proofs.RoundedStates.{quantity-near, share-figure-is, mean-near}
 
--- every step of a path has quantities in range
-abbrev pub ValidSteps : Path → Type 0
-ValidSteps p = Each (λ t. ValidManner (t .manner)) p
-
 -- a number of class 1 steps has at most nine digits
 pub short-count : (n k : ℕ) → k ≤ n → n ≤ 24 → suc k < 10 ^ 9
 short-count n k h l = le-trans {m = 26} (omega arith) (lit≤ tt)
-
-pub count-≤ : (net : Net) (p : Path) → class1-count net p ≤ length p
-unfolding class1-count
-count-≤ net [] = omega arith
-count-≤ net (t ∷ p) = go (class net t) (count-≤ net p)
-  where
-    go : (c : Class) → class1-count net p ≤ length p → counts-1 c + class1-count net p ≤ suc (length p)
-    go class1 h = omega arith
-    go class2 h = omega arith
-    go class3 h = omega arith
 
 module _ {m : Model} (valid : Valid m) where
   -- class 1 costs three roundings, class 2 one, class 3 two and the 17 of h
@@ -54,7 +42,7 @@ module _ {m : Model} (valid : Valid m) where
   steps-near [] w l = near-whole 1 (lit≤ tt)
   steps-near (t ∷ p) w l = let e : suc (length p) * 19 ≡ length p * 19 + 19 = omega arith in
       rw e (upper-step-near (class (m .net) t) (class1-count (m .net) p) (length p * 19) t (upper (m .net) p) _
-      (short-count (length p) _ (count-≤ (m .net) p) (omega arith)) (w .0) (steps-near p (w .1) (omega arith)))
+      (short-count (length p) _ (class1-count-≤ (m .net) p) (omega arith)) (w .0) (steps-near p (w .1) (omega arith)))
 
   pub upper-near : (p : Path) → ValidSteps p → length p ≤ 24 → Near 456 (upper (m .net) p) (upperᴺ (m .net) p)
   upper-near p w l = near-≤ 456 (omega arith) (steps-near p w l)

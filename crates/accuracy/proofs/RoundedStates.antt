@@ -2,8 +2,6 @@
 -- at most 16 roundings, h by 17 and H by 19. Assumes nothing.
 use Prim.Native.Nat.{ℕ, _+_, _^_, _≤_, _<_}
 use native.Mathlib.Omega.{arith}
-use lib.Dec.{lit≤}
-use native.Mathlib.Nat.{le-trans}
 use lib.ListN.{length}
 use Rattle.fraction.proofs.Ratio.{Ratio, _≈_, ofℕ, ⊗-zero}
 use Rattle.fraction.proofs.Inverse.{over-pos}
@@ -13,12 +11,13 @@ use Rattle.figure.proofs.Value.{val}
 use Rattle.figure.proofs.Scale.{pow-pos}
 use Rattle.model.specs.declared.Quantity.{Quantity}
 use Rattle.model.specs.Model.{Manner, slow, fast, Model, exits}
-use Rattle.model.proofs.Valid.{InRange, ValidManner, ValidTransition, Valid}
-use Rattle.model.proofs.Exits.{exits-each}
+use Rattle.model.proofs.Valid.{InRange, ValidManner, Valid}
 use Rattle.tree.specs.States.{figure-of, second-moment, sum-over, add-rate, add-mean-up, add-mean-down, add-moment, rate-sum, mean-up, mean-down, moment-sum}
 use Rattle.tree.specs.Upper.{share}
+use Rattle.tree.proofs.Quantities as tree
+use Rattle.tree.proofs.Positive.{exits-valid}
 use Rattle.accuracy.proofs.Folds.{fold-count}
-use Rattle.accuracy.proofs.Near.{Near, near-exact, near-≤, near-times, near-plus, near-add, near-keep, quantity-is}
+use Rattle.accuracy.proofs.Near.{Near, near-exact, near-≤, near-times, near-plus, near-add, near-keep}
 use Rattle.accuracy.proofs.Under.{Under, under-exact, under-≤, under-times, under-add, under-keep}
 use Rattle.accuracy.proofs.ExactStates.{exactᴺ, momentᴺ, shareᴺ, add-rateᴺ, add-meanᴺ, add-momentᴺ, rate-sumᴺ, meanᴺ, moment-sumᴺ}
 
@@ -27,7 +26,7 @@ use Rattle.accuracy.proofs.ExactStates.{exactᴺ, momentᴺ, shareᴺ, 
 module _ {least most : ℕ} {q : Quantity} (h : InRange least most q) where
   pub figure-is : val (figure-of q) ≈ exactᴺ q
   unfolding exactᴺ
-  figure-is = quantity-is (q .coefficient) (q .scale) (le-trans {m = 1000000} (omega (arith, h .high)) (lit≤ tt))
+  figure-is = tree.figure-is h
 
   pub quantity-near : Near 0 (figure-of q) (exactᴺ q)
   quantity-near = near-exact figure-is
@@ -58,9 +57,8 @@ module _ {m : Model} (valid : Valid m) (s : ℕ) where
       → R n none (ofℕ 0) → R (n + 16) (sum-over add none (exits (m .net) s)) (sum-over addᴺ (ofℕ 0) (exits (m .net) s))
   unfolding sum-over
   exits-sum R wider add addᴺ n step start = wider (n + length (exits (m .net) s)) (n + 16) _ _ (omega (arith, valid .few-exits s))
-      (fold-count R (ValidTransition (m .states)) (λ a t. add a (t .manner)) (λ a t. addᴺ a (t .manner)) n
-      (λ k f x t w h p. step k f x (t .manner) (w .manner) h p) n (exits (m .net) s)
-      (exits-each (ValidTransition (m .states)) (m .net .table) s (valid .table)) (omega arith) start)
+      (fold-count R (λ t. ValidManner (t .manner)) (λ a t. add a (t .manner)) (λ a t. addᴺ a (t .manner)) n
+      (λ k f x t w h p. step k f x (t .manner) w h p) n (exits (m .net) s) (exits-valid valid s) (omega arith) start)
 
   near-exits : (add : Figure → Manner → Figure) (addᴺ : Ratio → Manner → Ratio) (n : ℕ)
       → ((k : ℕ) (f : Figure) (x : Ratio) (y : Manner) → ValidManner y → n ≤ k → Near k f x → Near (k + 1) (add f y) (addᴺ x y))

@@ -7,7 +7,7 @@ use native.Mathlib.Nat.{zero-lt-suc, zero-add}
 use native.Mathlib.Omega.{arith, patom}
 use lib.Dec.{lit≤}
 use lib.ListN.{length}
-use Rattle.fraction.proofs.Ratio.{Ratio, _≼_, _≈_, ofℕ, _⊕_, _⊗_, ≼-refl, ≼-trans, ≈-refl, ≈-le, ≈-ge, ⊕-mono, ⊕-assoc, ⊗-mono, ⊗-comm, ⊗-assoc, ⊗-one, ⊗-zero, ⊗-cancel, ofℕ-≼, ofℕ-pos, ≼-⊕, zero-≼}
+use Rattle.fraction.proofs.Ratio.{Ratio, _≼_, _≈_, ofℕ, _⊕_, _⊗_, ≼-refl, ≼-trans, ≈-refl, ≈-le, ≈-ge, ⊕-mono, ⊕-assoc, ⊗-mono, ⊗-assoc, ⊗-zero, ⊗-cancel, ofℕ-≼, ofℕ-pos, ≼-⊕, ≼-⊗, zero-≼}
 use Rattle.fraction.proofs.Certificate.{_+'_, _*'_, same-value}
 use Rattle.fraction.proofs.Inverse.{inv, _over_, over-is}
 use Rattle.fraction.proofs.Within.{Within, grow, grow-+, grow-≤, one-≼-grow, within-≼, within-trans, within-⊕, within-round, enough, ε, ε-is}
@@ -42,10 +42,7 @@ total-≈ e p = record { within = within-≈ (≈-refl _) e (p .within) }
 
 -- a path's own figure, to which the second kind may be added
 total-of : {m : ℕ} (k : ℕ) {f : Figure} {x : Ratio} → Near m f x → TotalNear m k f x
-total-of {m} k p = record { within = within-≼ more (p .within) }
-  where
-    more : ρ m ≼ ρ m ⊗ σ k
-    more = ≼-trans (≈-ge (⊗-one (ρ m))) (≼-trans (≈-le (⊗-comm _ _)) (⊗-mono (≼-refl (ρ m)) (one-≼-grow 99999999999999999 k)))
+total-of {m} k p = record { within = within-≼ (≼-⊗ (ρ m) (one-≼-grow 99999999999999999 k)) (p .within) }
 
 -- one addition
 total-add : {m k : ℕ} {f g : Figure} {x y : Ratio} → TotalNear m k f x → Near m g y → TotalNear m (k + 1) (total-up f g) (x ⊕ y)

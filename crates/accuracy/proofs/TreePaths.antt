@@ -12,15 +12,15 @@ use lib.ListN.{length}
 use Rattle.figure.specs.Operations.{to-nine-down, sum-to-nine-up}
 use Rattle.model.specs.declared.Quantity.{Quantity}
 use Rattle.model.specs.Model.{Manner, slow, fast, Transition, Net, Model, exits}
-use Rattle.model.proofs.Valid.{Each, InRange, ValidManner, ValidTransition, Valid}
+use Rattle.model.proofs.Valid.{Each, InRange, ValidManner, Valid}
 use Rattle.model.proofs.Members.{each-member, each-monotone, each-of-members}
-use Rattle.model.proofs.Exits.{exits-each}
 use Rattle.tree.specs.Paths.{Path, last-state, IsPath, Class, class1, class2, class3, class}
 use Rattle.tree.specs.Upper.{upper}
 use Rattle.tree.specs.Grains.{grains}
 use Rattle.tree.specs.Lower.{lower-with, lower}
 use Rattle.tree.specs.Tree.{Outcome, Visit, tree, paths, deaths, cuts}
 use Rattle.tree.specs.Report.{report-on}
+use Rattle.tree.proofs.Positive.{ValidSteps, exits-valid}
 use Rattle.tree.proofs.Least.{GrainsOf, grains-of-class}
 use Rattle.tree.proofs.Ended.{ended-at-most, InTree, paths-in-tree}
 use Rattle.accuracy.specs.Bounds.{exact-upper, exact-lower-with, exact-lower}
@@ -29,7 +29,7 @@ use Rattle.accuracy.proofs.Totals.{total-of-uppers, total-of-lowers}
 use Rattle.accuracy.proofs.EndedPaths.{NearTo, near-to, ShortOf, short-of, AccurateSums, sums-accurate, report-accurate}
 use Rattle.accuracy.proofs.ExactUpper.{exact-upper-is}
 use Rattle.accuracy.proofs.ExactLower.{exact-lower-is}
-use Rattle.accuracy.proofs.PathUpper.{ValidSteps, upper-near}
+use Rattle.accuracy.proofs.PathUpper.{upper-near}
 use Rattle.accuracy.proofs.PathLower.{Grained, GrainedSteps, lower-short}
 
 -- ---- the steps of a path are exits, so their quantities are in range
@@ -48,7 +48,7 @@ path-valid valid [] h = tt
 path-valid {m} valid (t ∷ p) h = (∥∥₁-elim (h .0) (valid-manner-prop (t .manner)) (exit-valid (last-state (m .net) p) t), path-valid valid p (h .1))
   where
     exit-valid : (s : ℕ) (t : Transition) → List·Memᴰ t (exits (m .net) s) → ValidManner (t .manner)
-    exit-valid s t k = each-member (ValidTransition (m .states)) k (exits-each (ValidTransition (m .states)) (m .net .table) s (valid .table)) .manner
+    exit-valid s t k = each-member (λ x. ValidManner (x .manner)) k (exits-valid valid s)
 
 module _ {m : Model} (valid : Valid m) where
   abbrev net : Net

@@ -1,8 +1,7 @@
 -- Figures that err downward, by a factor. Assumes nothing.
-use Prim.Native.Nat.{ℕ, zero, suc, _+_, _*_, _^_, _≤_, _<_, max}
-use native.Mathlib.Nat.{zero-lt-suc}
+use Prim.Native.Nat.{ℕ, _+_, _≤_, _<_, max}
 use native.Mathlib.Omega.{arith}
-use Rattle.fraction.proofs.Ratio.{Ratio, _≈_, ofℕ, _⊕_, _⊗_, ≈-refl, pos-≼}
+use Rattle.fraction.proofs.Ratio.{Ratio, _≈_, ofℕ, _⊕_, _⊗_, ≈-refl, pos-left, pos-≼}
 use Rattle.fraction.proofs.Within.{Within}
 use Rattle.fraction.proofs.Signed.{signed, signed-whole}
 use Rattle.figure.specs.declared.Figure.{Figure}
@@ -10,7 +9,6 @@ use Rattle.figure.specs.Rounding.{down}
 use Rattle.figure.specs.Operations.{times-down, plus-down, of-whole}
 use Rattle.figure.proofs.Value.{val}
 use Rattle.figure.proofs.Operations.{value-times, value-plus}
-use Rattle.figure.proofs.Exact.{exact-down, whole-exact}
 use Rattle.accuracy.proofs.Roundings.{ρ, rounded-down, roundings-none, roundings-≤, within-≈, roundings-trans, roundings-⊗, roundings-⊕}
 
 -- the figure f is x, or below it by at most n roundings; a record, so that n, f and x can be inferred
@@ -23,17 +21,9 @@ under-exact {f} e = record { within = within-≈ e (≈-refl _) (roundings-none 
 pub under-≤ : {m : ℕ} (n : ℕ) {f : Figure} {x : Ratio} → m ≤ n → Under m f x → Under n f x
 under-≤ {m} n h p = record { within = roundings-≤ m n h (p .within) }
 
-factor-pos : (x y : Ratio) → 0 < (x ⊗ y) .num → 0 < x .num
-unfolding _⊗_
-factor-pos x y h = go (x .num) h
-  where
-    go : (n : ℕ) → 0 < n * y .num → 0 < n
-    go zero k = omega arith
-    go (suc n) k = zero-lt-suc n
-
 -- what is below a positive number by roundings is positive too
 pub under-pos : {n : ℕ} {f : Figure} {x : Ratio} → 0 < x .num → Under n f x → 0 < (val f) .num
-under-pos {n} {f} h p = factor-pos (val f) (ρ n) (pos-≼ (p .within .high) h)
+under-pos {n} {f} h p = pos-left (val f) (ρ n) (pos-≼ (p .within .high) h)
 
 -- one rounding more
 pub under-down : (n : ℕ) {x̂ x : Ratio} → Within (ρ n) x x̂ → Under (n + 1) (down 9 (signed x̂)) x
@@ -51,12 +41,7 @@ pub under-plus : {m n : ℕ} {a b : Figure} {x y : Ratio} → Under m a x → Un
 unfolding plus-down
 under-plus {m} {n} {a} {b} p q = rw (value-plus a b) (under-down (max m n) (roundings-⊕ m n (p .within) (q .within)))
 
--- ---- whole numbers: exact up to nine digits, and any other loses one rounding
-
-pub whole-is : (k : ℕ) → k < 10 ^ 9 → val (of-whole k) ≈ ofℕ k
-unfolding of-whole
-whole-is k h = rw (← signed-whole k) (exact-down (whole-exact 8 k h))
-
+-- a whole number, of however many digits
 pub under-whole : (k : ℕ) → Under 1 (of-whole k) (ofℕ k)
 unfolding of-whole
 under-whole k = rw (← signed-whole k) (down-under (ofℕ k))

@@ -2,7 +2,7 @@
 use mathlib.Core.Path.{_≡_, refl, sym, _∙_, ap, ap₂}
 use mathlib.Core.Bool.{Bool, true, false}
 use Prim.Native.Nat.{ℕ, zero, suc, _+_, _-_, _*_, _^_, _≤_, _<_}
-use native.Mathlib.Nat.{lt-of-lt-of-le, mul-le-mul, mul-le-mul-right, mul-sub, zero-lt-suc, lt-irrefl, le-of-lt, pow-le-pow-right, pow-suc}
+use native.Mathlib.Nat.{lt-of-lt-of-le, mul-le-mul, mul-le-mul-right, zero-lt-suc, lt-irrefl, le-of-lt, pow-le-pow-right, pow-suc}
 use native.Mathlib.Numerals.{add-one}
 use native.Mathlib.Omega.{arith}
 use lib.Dec.{eqb, lit≤}
@@ -12,21 +12,20 @@ use mir.Syntax.{w64}
 use mir.Val.{Fits}
 use borrow.Author.Tests.{eq-eqb, ne-eqb, eqb-true, eqb-false}
 use Rattle.fraction.specs.Fraction.{_-ᶠ_}
-use Rattle.fraction.proofs.Ratio.{Ratio, _≼_, _≈_, ofℕ, _⊗_, _⊖_, ≼-trans, ≼-antisym, ≈-refl, ≈-sym, ≈-trans, ≈-le, ≈-ge, ⊖-mono}
+use Rattle.fraction.proofs.Ratio.{_≼_, _≈_, ofℕ, _⊗_, _⊖_, ≼-trans, ≈-refl, ≈-sym, ≈-trans, ≈-le, ⊖-cong, ⊖-nothing, ⊖-zero, ⊖-multiples}
 use Rattle.fraction.proofs.PowersOfTen.{ten-to}
 use Rattle.fraction.proofs.Signed.{signed}
 use Rattle.figure.specs.declared.Figure.{Figure}
 use Rattle.figure.specs.Rounding.{figure, none, value, IsFigure}
 use Rattle.figure.specs.Operands.{Operand, Sized}
 use Rattle.figure.specs.Steps.{rounded, Ordered, part, directed, just-below}
-use Rattle.figure.proofs.Scale.{pow-pos, multiple-≼}
+use Rattle.figure.proofs.Scale.{pow-pos, multiple-≼, ten-shift}
 use Rattle.figure.proofs.Value.{val, value-is}
 use Rattle.figure.proofs.Operations.{up-minus, down-minus}
 use Rattle.figure.proofs.Stored.{stored, kept, mag-difference, read-difference, read-test}
 use Rattle.figure.proofs.Parts.{parts, some-left, at-part}
 use Rattle.figure.proofs.Rounded.{Over, rounded-part}
 use Rattle.figure.proofs.Figures.{digits-high, digits-low, zero-is-none, zero-num, room, rounded-own, rounded-zero, rounded-same, over-tens}
-use Rattle.figure.proofs.Wholes.{padded-value}
 use Rattle.figure.proofs.Orders.{above-strictly, lower-value}
 
 rounded-minus : (upward : Bool) (K : ℕ) (a b : Figure) → rounded upward K (value a -ᶠ value b) ≡ rounded upward K (signed (val a ⊖ val b))
@@ -34,32 +33,6 @@ rounded-minus true K a b = up-minus K a b
 rounded-minus false K a b = down-minus K a b
 
 -- ---- the exact difference
-
-⊖-cong : {x x′ y y′ : Ratio} → x ≈ x′ → y ≈ y′ → x ⊖ y ≈ x′ ⊖ y′
-⊖-cong p q = ≼-antisym (⊖-mono (≈-le p) (≈-ge q)) (⊖-mono (≈-ge p) (≈-le q))
-
--- of two multiples of one number
-⊖-multiples : (m s : ℕ) (y : Ratio) → (ofℕ m ⊗ y) ⊖ (ofℕ s ⊗ y) ≈ ofℕ (m - s) ⊗ y
-unfolding _⊗_ _⊖_ ofℕ
-⊖-multiples m s y = record { eq = go (y .num) (y .den) }
-  where
-    go : (n d : ℕ) → (m * n * (1 * d) - s * n * (1 * d)) * (1 * d) ≡ (m - s) * n * (1 * d * (1 * d))
-    go n d = let k : m * n * (1 * d) - s * n * (1 * d) ≡ (n * (1 * d)) * (m - s) = ap₂ _-_ (order m) (order s) ∙ sym (mul-sub (n * (1 * d)) m s) in rw k (omega arith)
-      where
-        order : (c : ℕ) → c * n * (1 * d) ≡ (n * (1 * d)) * c
-        order c = omega arith
-
--- nothing is left of what is not larger
-⊖-nothing : {x y : Ratio} → x ≼ y → (x ⊖ y) .num ≡ 0
-unfolding _⊖_
-⊖-nothing h = omega (arith, h .le)
-
-⊖-zero : (x y : Ratio) → y .num ≡ 0 → x ⊖ y ≈ x
-unfolding _⊖_
-⊖-zero x y z = record { eq = rw z (go (x .num) (x .den) (y .den)) }
-  where
-    go : (a b d : ℕ) → (a * d - 0 * b) * b ≡ a * (b * d)
-    go a b d = let e : a * d - 0 * b ≡ a * d = omega arith in rw e (omega arith)
 
 module _ (upward : Bool) (a b : Figure) where
   pub no-difference : val a ≼ val b → none ≡ rounded upward 9 (value a -ᶠ value b)
@@ -88,7 +61,7 @@ module _ {a b : Figure} {g : ℕ} (o : Ordered 9 a b) (g-is : pos g ≡ stored (
   lowered = ap (λ z. z -ℤ pos g) (sym raised) ∙ +ℤ-negℤ-cancel (b .power) (pos g)
 
   first-is : val a ≈ ofℕ (a .digits * 10 ^ g) ⊗ ten-to (b .power)
-  first-is = ≈-sym (rw lowered at (padded-value (a .digits) g (a .power)))
+  first-is = ≈-sym (rw lowered at (ten-shift (a .digits) g (a .power)))
 
   difference-is : val a ⊖ val b ≈ ofℕ (a .digits * 10 ^ g - b .digits) ⊗ ten-to (b .power)
   difference-is = ≈-trans (⊖-cong first-is (≈-refl _)) (⊖-multiples (a .digits * 10 ^ g) (b .digits) (ten-to (b .power)))

@@ -6,14 +6,14 @@ use native.Mathlib.Omega.{arith}
 use lib.Pow.{pow-add}
 use lib.IntN.{ℤ, pos, negℤ, _+ℤ_, _-ℤ_}
 use Rattle.fraction.specs.Fraction.{_≈ᶠ_, whole, ratio, ten, _*ᶠ_}
-use Rattle.fraction.proofs.Ratio.{Ratio, _≼_, _≈_, ofℕ, _⊗_, ≼-refl, ≼-trans, ≼-antisym, ≈-refl, ≈-sym, ≈-trans, ≈-le, ≈-ge, ⊗-cong, ⊗-comm, ⊗-assoc, ⊗-one, ⊗-zero}
-use Rattle.fraction.proofs.PowersOfTen.{ten-to, ten-zero, ten-+}
-use Rattle.fraction.proofs.Inverse.{_over_, over-is}
+use Rattle.fraction.proofs.Ratio.{Ratio, _≼_, _≈_, ofℕ, _⊗_, ≼-refl, ≼-trans, ≼-antisym, ≈-refl, ≈-sym, ≈-trans, ≈-le, ≈-ge, ⊗-cong, ⊗-assoc, ⊗-zero, ofℕ-pos}
+use Rattle.fraction.proofs.PowersOfTen.{ten-to, ten-+}
+use Rattle.fraction.proofs.Inverse.{_over_, over-≈, inv-unique}
 use Rattle.fraction.proofs.Signed.{signed, signed-≈, signed-⊗, signed-whole, signed-ten, signed-ratio}
 use Rattle.figure.specs.declared.Figure.{Figure}
 use Rattle.figure.specs.Rounding.{figure, none, value, IsFigure, is-zero, digit-count, up, down}
 use Rattle.figure.specs.Operations.{times-ten, of-whole, of-quantity}
-use Rattle.figure.proofs.Scale.{pow-pos, exponent-<, ten-shift, power-inverse}
+use Rattle.figure.proofs.Scale.{pow-pos, exponent-<, ten-units, ten-shift, power-inverse}
 use Rattle.figure.proofs.Digits.{digits-above, digits-below}
 use Rattle.figure.proofs.Value.{val, value-is, val-≼, below-val, above-val, below-value, above-value, figure-of}
 use Rattle.figure.proofs.Up.{natural-up}
@@ -76,34 +76,32 @@ module _ (w c : ℕ) (e : ℤ) (small : c < 10 ^ suc w) where
       go (suc n) z = padded (rw z (zero-lt-suc n))
 
 pub whole-exact : (w n : ℕ) → n < 10 ^ suc w → Exact w (ofℕ n)
-whole-exact w n h = exact-≈ (≈-trans (⊗-cong (≈-refl _) ten-zero) (≈-trans (⊗-comm _ _) (⊗-one _))) (short-exact w n (pos 0) h)
+whole-exact w n h = exact-≈ (ten-units n) (short-exact w n (pos 0) h)
 
 -- ---- c / 10^p is c times a power of ten
 
 pub over-ten : (c p : ℕ) → c over (10 ^ p) ≈ ofℕ c ⊗ ten-to (negℤ (pos p))
-over-ten c p = ≈-trans (≈-sym (⊗-one _)) (≈-trans (⊗-cong (≈-sym one) (≈-refl _)) (≈-trans turn (⊗-cong (over-is c (10 ^ p) (pow-pos p)) (≈-refl _))))
-  where
-    t : Ratio
-    t = ten-to (negℤ (pos p))
-
-    one : t ⊗ ofℕ (10 ^ p) ≈ ofℕ 1
-    one = ≈-trans (⊗-comm _ _) (power-inverse p)
-
-    turn : t ⊗ ofℕ (10 ^ p) ⊗ c over (10 ^ p) ≈ ofℕ (10 ^ p) ⊗ c over (10 ^ p) ⊗ t
-    turn = ≈-trans (⊗-assoc _ _ _) (⊗-comm _ _)
+over-ten c p = ≈-trans (over-≈ c (10 ^ p))
+    (⊗-cong (≈-refl _) (≈-sym (inv-unique (ofℕ (10 ^ p)) (ten-to (negℤ (pos p))) (ofℕ-pos (pow-pos p)) (power-inverse p))))
 
 -- ---- the operations that are exact
 
 -- a whole number of at most nine digits
-pub of-whole-exact : (n : ℕ) → n < 10 ^ 9 → value (of-whole n) ≈ᶠ whole n
+pub natural-of-whole : (n : ℕ) → n < 10 ^ 9 → val (of-whole n) ≈ ofℕ n
 unfolding of-whole
-of-whole-exact n h = rw (value-is (down 9 (whole n)), ← signed-whole n) (signed-≈ (exact-down (whole-exact 8 n h)))
+natural-of-whole n h = rw (← signed-whole n) (exact-down (whole-exact 8 n h))
+
+pub of-whole-exact : (n : ℕ) → n < 10 ^ 9 → value (of-whole n) ≈ᶠ whole n
+of-whole-exact n h = rw (value-is (of-whole n), ← signed-whole n) (signed-≈ (natural-of-whole n h))
 
 -- a quantity
-pub of-quantity-exact : (c p : ℕ) → c < 10 ^ 9 → value (of-quantity c p) ≈ᶠ ratio (pos c) (10 ^ p)
+pub natural-of-quantity : (c p : ℕ) → c < 10 ^ 9 → val (of-quantity c p) ≈ c over (10 ^ p)
 unfolding of-quantity
-of-quantity-exact c p h = rw (value-is (up 9 (ratio (pos c) (10 ^ p))), ← signed-ratio c (10 ^ p))
-    (signed-≈ (exact-up (exact-≈ (≈-sym (over-ten c p)) (short-exact 8 c (negℤ (pos p)) h))))
+natural-of-quantity c p h =
+    rw (← signed-ratio c (10 ^ p)) (exact-up (exact-≈ (≈-sym (over-ten c p)) (short-exact 8 c (negℤ (pos p)) h)))
+
+pub of-quantity-exact : (c p : ℕ) → c < 10 ^ 9 → value (of-quantity c p) ≈ᶠ ratio (pos c) (10 ^ p)
+of-quantity-exact c p h = rw (value-is (of-quantity c p), ← signed-ratio c (10 ^ p)) (signed-≈ (natural-of-quantity c p h))
 
 -- times a power of ten
 pub natural-times-ten : (a : Figure) (p : ℤ) → val (times-ten a p) ≈ val a ⊗ ten-to p

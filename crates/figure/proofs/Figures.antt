@@ -7,7 +7,7 @@ use native.Mathlib.Omega.{arith}
 use lib.Dec.{T, leb, lit≤}
 use lib.IntN.{ℤ, pos, _+ℤ_}
 use lib.Signed.{mag}
-use Rattle.fraction.proofs.Ratio.{Ratio, _≈_, ofℕ, _⊗_, ≈-trans, ⊗-comm, ⊗-one}
+use Rattle.fraction.proofs.Ratio.{Ratio, _≈_, ofℕ, _⊗_, ≈-trans, ⊗-one-right}
 use Rattle.fraction.proofs.PowersOfTen.{ten-to}
 use Rattle.fraction.proofs.Signed.{signed, signed-≈}
 use Rattle.figure.specs.declared.Figure.{Figure}
@@ -68,7 +68,7 @@ rounded-same false w h = down-respects w _ _ (signed-≈ h)
 
 -- ---- n times 10^e, with the last k digits behind the point
 pub over-tens : {x : Ratio} (n k : ℕ) (e : ℤ) → x ≈ ofℕ n ⊗ ten-to e → Over x n (10 ^ k) (e +ℤ pos k)
-over-tens {x} n k e h = rw one-times at (over-lift k (record { is = ≈-trans (⊗-comm x (ofℕ 1)) (≈-trans (⊗-one x) h) }))
+over-tens {x} n k e h = rw one-times at (over-lift k (record { is = ≈-trans (⊗-one-right x) h }))
   where
     one-times : 1 * 10 ^ k ≡ 10 ^ k
     one-times = omega arith

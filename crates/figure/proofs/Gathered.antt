@@ -5,7 +5,7 @@ use Prim.Native.Nat.{ℕ, suc, _+_, _^_, _≤_, _<_}
 use Rattle.fraction.proofs.Ratio.{≼-trans, ≈-le, ⊗-zero, zero-≼}
 use Rattle.figure.specs.declared.Figure.{Figure}
 use Rattle.figure.specs.Rounding.{none, IsFigure, is-zero}
-use Rattle.figure.specs.Operations.{plus-up, plus-down, total-up, total-down}
+use Rattle.figure.specs.Operations.{total-up, total-down}
 use Rattle.figure.specs.Operands.{Sized}
 use Rattle.figure.proofs.Value.{val}
 use Rattle.figure.proofs.Rounding.{up-figure, down-figure}
@@ -22,8 +22,7 @@ gathered-none K l h = record {
   is-figure = is-zero refl refl;
   reach = record {
     low = λ z. absurd (none-not-pos z);
-    high = ≼-trans (≈-le (⊗-zero _))
-        (zero-≼ _);
+    high = ≼-trans (≈-le (⊗-zero _)) (zero-≼ _);
   };
 }
 
@@ -31,14 +30,6 @@ pub gathered-one : (l h : ℕ) {w m : ℕ} {f : Figure} → suc m ≤ l → m + 
 gathered-one l h p q s = record { is-figure = s .is-figure; reach = reach-≤ p q (sized-reach s) }
 
 module _ {l h n k : ℕ} {a b : Figure} where
-  pub plus-up-gathered : n + k < 10 ^ 9 → Gathered 9 l h n a → Gathered 9 l h k b → Gathered 9 l h (n + k) (plus-up a b)
-  unfolding plus-up
-  plus-up-gathered s p q = rw (value-plus a b) (record { is-figure = up-figure 8 _; reach = reach-up 8 s (reach-⊕ (p .reach) (q .reach)) })
-
-  pub plus-down-gathered : Gathered 9 l h n a → Gathered 9 l h k b → Gathered 9 l h (n + k) (plus-down a b)
-  unfolding plus-down
-  plus-down-gathered p q = rw (value-plus a b) (record { is-figure = down-figure 8 _; reach = reach-down 8 (reach-⊕ (p .reach) (q .reach)) })
-
   pub total-up-gathered : n + k < 10 ^ 18 → Gathered 18 l h n a → Gathered 9 l h k b → Gathered 18 l h (n + k) (total-up a b)
   unfolding total-up
   total-up-gathered s p q = rw (value-plus a b) (record { is-figure = up-figure 17 _; reach = reach-up 17 s (reach-⊕ (p .reach) (q .reach)) })

@@ -1,4 +1,3 @@
-pub mod Nonnegative
 pub mod Scale
 pub mod Digits
 pub mod Counts
@@ -7,14 +6,15 @@ pub mod Up
 pub mod Down
 pub mod Rounding
 pub mod Operations
+pub mod Positive
 pub mod Exact
 pub mod Reach
-pub mod Sized
-pub mod Gathered
 pub mod Stored
 pub mod Parts
 pub mod Rounded
 pub mod Figures
+pub mod Sized
+pub mod Gathered
 pub mod Products
 pub mod Sums
 pub mod Quotients

@@ -3,7 +3,8 @@
 use mathlib.Core.Path.{_≡_, refl, sym, _∙_, ap, ap₂}
 use mathlib.Core.Bool.{Bool, true, false, not, _||_}
 use Prim.Native.Nat.{ℕ, zero, suc, _+_, _-_, _*_, _/_, _%_, _^_, _≤_, _<_}
-use native.Mathlib.Nat.{div-mul-le-self, div-add-mod', mod-lt, div-eq-of-lt-le, div-lt-iff-lt-mul, zero-lt-suc, pow-suc, mul-le-mul-right, mul-pos, mul-div-cancel, lt-irrefl, lt-of-lt-of-le, pow-le-pow-right}
+use native.Mathlib.Nat.{div-mul-le-self, div-add-mod', mod-lt, div-eq-of-lt-le, div-lt-iff-lt-mul, zero-lt-suc}
+use native.Mathlib.Nat.{pow-suc, mul-le-mul-right, mul-pos, mul-div-cancel, lt-irrefl, lt-of-lt-of-le, pow-le-pow-right}
 use native.Mathlib.Omega.{arith}
 use lib.Dec.{eqb, lit≤}
 use lib.IntN.{ℤ, pos, _+ℤ_}

@@ -9,7 +9,8 @@ use native.Mathlib.Omega.{arith, patom, plit}
 use lib.Pow.{pow-add}
 use lib.IntN.{ℤ, pos, negsuc, negℤ}
 use lib.Signed.{mag}
-use Rattle.fraction.proofs.Ratio.{Ratio, _≼_, _≈_, ofℕ, _⊕_, _⊗_, _⊖_, ⊖-cap, ≼-refl, ≼-trans, ≈-refl, ≈-sym, ≈-trans, ≈-le, ≈-ge, ⊕-mono, ⊗-mono, ⊗-cong, ofℕ-≼, ofℕ-⊕, ofℕ-⊗, zero-or-pos, pos-≼}
+use Rattle.fraction.proofs.Ratio.{Ratio, _≼_, _≈_, ofℕ, _⊕_, _⊗_, _⊖_, ≼-refl, ≼-trans, ≈-refl, ≈-sym, ≈-trans, ≈-le, ≈-ge, ⊕-mono, ⊗-mono}
+use Rattle.fraction.proofs.Ratio.{⊗-cong, ⊕-cong, ⊕-zero, ofℕ-≼, ofℕ-⊕, ofℕ-⊗, zero-or-pos, num-zero, pos-ofℕ, pos-left, pos-right, pos-≼, ⊖-cap}
 use Rattle.fraction.proofs.Certificate.{_+'_, _*'_, prove, hyp}
 use Rattle.fraction.proofs.Inverse.{inv, inv-is}
 use Rattle.fraction.proofs.PowersOfTen.{ten-to, ten-nat}
@@ -42,20 +43,8 @@ reach-≤ p q r = reach-wide p (omega (arith, pow-mono q)) r
 
 -- ---- products
 
-factor-pos : (a b : ℕ) → 0 < a * b → 0 < a
-factor-pos zero b h = omega arith
-factor-pos (suc a) b h = zero-lt-suc a
-
-left-pos : (x y : Ratio) → 0 < (x ⊗ y) .num → 0 < x .num
-unfolding _⊗_
-left-pos x y z = factor-pos (x .num) (y .num) z
-
-right-pos : (x y : Ratio) → 0 < (x ⊗ y) .num → 0 < y .num
-unfolding _⊗_
-right-pos x y z = factor-pos (y .num) (x .num) (omega arith)
-
 pub reach-⊗ : {l h n l′ h′ n′ : ℕ} {x y : Ratio} → Reach l h n x → Reach l′ h′ n′ y → Reach (l + l′) (h + h′) (n * n′) (x ⊗ y)
-reach-⊗ {l} {h} {n} {l′} {h′} {n′} {x} {y} p q = record { low = λ z. low (left-pos x y z) (right-pos x y z); high = high }
+reach-⊗ {l} {h} {n} {l′} {h′} {n′} {x} {y} p q = record { low = λ z. low (pos-left x y z) (pos-right x y z); high = high }
   where
     low : 0 < x .num → 0 < y .num → ofℕ 1 ≼ ofℕ (10 ^ (l + l′)) ⊗ (x ⊗ y)
     low a b = prove (ofℕ (10 ^ l) ∷ ofℕ (10 ^ l′) ∷ ofℕ (10 ^ (l + l′)) ∷ x ∷ y ∷ [])
@@ -76,7 +65,7 @@ reach-⊕ {l} {h} {n} {n′} {x} {y} p q = record { low = λ z. go (x .num) refl
     L = ofℕ (10 ^ l)
 
     right : x .num ≡ 0 → 0 < (x ⊕ y) .num → 0 < y .num
-    right e z = unfold _⊕_ in factor-pos (y .num) (x .den) (omega (arith, rw e at z))
+    right e z = pos-≼ (≈-le (≈-trans (⊕-cong (num-zero x e) (≈-refl y)) (⊕-zero y))) z
 
     go : (m : ℕ) → x .num ≡ m → 0 < (x ⊕ y) .num → ofℕ 1 ≼ L ⊗ (x ⊕ y)
     go zero e z = prove (L ∷ x ∷ y ∷ []) (hyp (plit 1) (plit 1) (patom 0 *' patom 2) ∷ []) (plit 1) (patom 0 *' (patom 1 +' patom 2)) tt
@@ -185,7 +174,7 @@ power-reach v m d p s h = record {
 }
   where
     digits : 0 < (ofℕ d ⊗ ten-to p) .num → 0 < d
-    digits z = unfold ofℕ in left-pos (ofℕ d) (ten-to p) z
+    digits z = pos-ofℕ (pos-left (ofℕ d) (ten-to p) z)
 
 pub power-multiple : (m d : ℕ) (p : ℤ) → mag p ≤ m → Multiple (suc m) (ofℕ d ⊗ ten-to p)
 unfolding ten-to ofℕ _⊗_

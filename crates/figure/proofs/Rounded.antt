@@ -86,7 +86,9 @@ module _ (w : ℕ) {x : Ratio} {n t : ℕ} {e : ℤ} (ht : 0 < t) (o : Over x n 
       le-pred l = omega arith
 
   up-exact : n / t * t ≡ n → figure (n / t) e ≡ up (suc w) (signed x)
-  up-exact z = sym (carry-short (suc w) (n / t) e (λ p. lt-irrefl (n / t) (omega (arith, small, p, pow-succ' 10 w)))) ∙ carry-is w (n / t) e ∙ Up.round-up w x (n / t) e low-reach (above ht o (n / t) (omega (arith, z)))
+  up-exact z =
+      sym (carry-short (suc w) (n / t) e (λ p. lt-irrefl (n / t) (omega (arith, small, p, pow-succ' 10 w)))) ∙ carry-is w (n / t) e
+      ∙ Up.round-up w x (n / t) e low-reach (above ht o (n / t) (omega (arith, z)))
       (λ c h. le-of-mul (le-trans (div-mul-le-self n t) (from-above ht o c h))) (le-of-lt small)
     where
       le-of-mul : {c : ℕ} → n / t * t ≤ c * t → n / t ≤ c

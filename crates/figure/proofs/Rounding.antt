@@ -1,22 +1,23 @@
 -- The laws of the two roundings to w + 1 digits, over signed fractions: at w = 8 those of figures, at w = 17 those of totals. Assumes nothing.
 use mathlib.Core.Path.{_≡_, refl, _∙_}
 use mathlib.Core.List.{[], _∷_}
-use Prim.Native.Nat.{ℕ, suc, _+_, _^_, _<_}
+use Prim.Native.Nat.{ℕ, suc, _+_, _^_}
 use native.Mathlib.Omega.{patom, plit}
 use lib.IntN.{ℤ, pos, negsuc, negℤ}
-use lib.Signed.{_<ℤ_}
 use Rattle.fraction.specs.Fraction.{Fraction, _≤ᶠ_, _≈ᶠ_, whole, ten, _+ᶠ_, _-ᶠ_, _*ᶠ_}
 use Rattle.fraction.proofs.Ratio.{Ratio, _≼_, ofℕ, _⊕_, _⊗_, _⊖_, ≼-refl, ≼-trans, ≈-le, ≈-ge, ⊗-mono, ⊗-one, ⊗-cancel, ofℕ-⊕, ofℕ-≼, ofℕ-pos, ⊖-back}
 use Rattle.fraction.proofs.Certificate.{_+'_, _*'_, prove, hyp}
 use Rattle.fraction.proofs.PowersOfTen.{ten-to}
-use Rattle.fraction.proofs.Signed.{signed, nonnegative, nonnegative-positive, signed-nonnegative, signed-⊕, signed-⊗, signed-⊖, signed-whole, signed-ten}
+use Rattle.fraction.proofs.Signed.{signed, nonnegative, signed-nonnegative, nonnegative-≼, nonnegative-none, signed-⊕, signed-⊗, signed-⊖, signed-whole, signed-ten}
+use Rattle.fraction.proofs.Laws.{≈ᶠ-≤, ≈ᶠ-≥}
 use Rattle.figure.specs.declared.Figure.{Figure}
 use Rattle.figure.specs.Rounding.{none, value, IsFigure, IsUp, IsDown, up, down}
-use Rattle.figure.proofs.Nonnegative.{≈ᶠ-≤, ≈ᶠ-≥, nonnegative-≼, not-positive}
 use Rattle.figure.proofs.Scale.{pow-pos, power-inverse}
 use Rattle.figure.proofs.Value.{val, value-is, value-≼, val-≼, above-value, below-value, figure-same}
 use Rattle.figure.proofs.Up as Up
+pub use Rattle.figure.proofs.Up.{up-unique}
 use Rattle.figure.proofs.Down as Down
+pub use Rattle.figure.proofs.Down.{down-unique}
 
 -- ---- a fraction below 0 is rounded as 0 is
 
@@ -41,10 +42,10 @@ down-natural K x = go (x .num)
     go (negsuc n) = refl
 
 pub up-none : (K : ℕ) (x : Fraction) → x ≤ᶠ whole 0 → up K x ≡ none
-up-none K x h = up-natural K x ∙ Up.up-zero K (nonnegative x) (not-positive x h)
+up-none K x h = up-natural K x ∙ Up.up-zero K (nonnegative x) (nonnegative-none x h)
 
 pub down-none : (K : ℕ) (x : Fraction) → x ≤ᶠ whole 0 → down K x ≡ none
-down-none K x h = down-natural K x ∙ Down.down-zero K (nonnegative x) (not-positive x h)
+down-none K x h = down-natural K x ∙ Down.down-zero K (nonnegative x) (nonnegative-none x h)
 
 -- ---- "Up(x) is the least figure not below x, down(x) the greatest not above", and each is the only one
 
@@ -54,25 +55,11 @@ up-is-up w x h = rw (signed-nonnegative h) at (Up.natural-up w (nonnegative x))
 pub down-is-down : (w : ℕ) (x : Fraction) → whole 0 ≤ᶠ x → IsDown (suc w) x (down (suc w) x)
 down-is-down w x h = rw (signed-nonnegative h) at (Down.natural-down w (nonnegative x))
 
-pub up-unique : (w : ℕ) (x : Fraction) (f g : Figure) → IsUp (suc w) x f → IsUp (suc w) x g → f ≡ g
-up-unique = Up.up-unique
-
-pub down-unique : (w : ℕ) (x : Fraction) (f g : Figure) → IsDown (suc w) x f → IsDown (suc w) x g → f ≡ g
-down-unique = Down.down-unique
-
 pub up-figure : (w : ℕ) (x : Fraction) → IsFigure (suc w) (up (suc w) x)
 up-figure w x = rw (up-natural (suc w) x) (Up.natural-up w (nonnegative x) .is-figure)
 
 pub down-figure : (w : ℕ) (x : Fraction) → IsFigure (suc w) (down (suc w) x)
 down-figure w x = rw (down-natural (suc w) x) (Down.natural-down w (nonnegative x) .is-figure)
-
--- what is positive is not rounded to 0
-
-pub up-positive : (w : ℕ) (x : Fraction) → pos 0 <ℤ x .num → 0 < (up (suc w) x) .digits
-up-positive w x h = rw (up-natural (suc w) x) (Up.up-pos w (nonnegative x) (nonnegative-positive x h))
-
-pub down-positive : (w : ℕ) (x : Fraction) → pos 0 <ℤ x .num → 0 < (down (suc w) x) .digits
-down-positive w x h = rw (down-natural (suc w) x) (Down.down-pos w (nonnegative x) (nonnegative-positive x h))
 
 -- ---- the order, and equality as fractions
 
@@ -95,11 +82,11 @@ value-refl : (f : Figure) → value f ≤ᶠ value f
 value-refl f = value-≼ f f (≼-refl _)
 
 pub up-of-figure : (w : ℕ) (f : Figure) → IsFigure (suc w) f → up (suc w) (value f) ≡ f
-up-of-figure w f i = Up.up-unique w (value f) _ f (rw (value-is f) (Up.natural-up w (val f)))
+up-of-figure w f i = up-unique w (value f) _ f (rw (value-is f) (Up.natural-up w (val f)))
     (record { is-figure = i; not-below = value-refl f; least = λ g j h. h })
 
 pub down-of-figure : (w : ℕ) (f : Figure) → IsFigure (suc w) f → down (suc w) (value f) ≡ f
-down-of-figure w f i = Down.down-unique w (value f) _ f (rw (value-is f) (Down.natural-down w (val f)))
+down-of-figure w f i = down-unique w (value f) _ f (rw (value-is f) (Down.natural-down w (val f)))
     (record { is-figure = i; not-above = value-refl f; greatest = λ g j h. h })
 
 -- ---- a rounding goes at most one part in 10^w away

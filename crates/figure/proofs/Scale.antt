@@ -6,7 +6,8 @@ use Prim.Native.Nat.{ℕ, zero, suc, _*_, _^_, _≤_, _<_}
 use native.Mathlib.Nat.{mul-pos, one-le-pow, zero-lt-suc, pow-le-pow-right, pow-succ', lt-of-not-le, not-le-of-lt, le-of-suc-le-suc}
 use native.Mathlib.Omega.{arith, patom}
 use lib.IntN.{ℤ, pos, negsuc, sucℤ, predℤ, negℤ, _+ℤ_, _-ℤ_, +ℤ-idl, +ℤ-sucℤ, sucℤ-+ℤ, +ℤ-comm, -ℤ-+ℤ-cancel, suc-pred, pred-suc, negℤ-negℤ, negℤ-+ℤ, +ℤ-invr}
-use Rattle.fraction.proofs.Ratio.{Ratio, _≼_, _≈_, ofℕ, _⊗_, ≼-refl, ≼-trans, ≈-refl, ≈-sym, ≈-trans, ≈-le, ≈-ge, ⊗-mono, ⊗-cong, ⊗-comm, ⊗-assoc, ofℕ-≼, ofℕ-⊗, ofℕ-≤, ofℕ-pos, ⊗-pos, ⊗-cancel, ≼-or}
+use Rattle.fraction.proofs.Ratio.{Ratio, _≼_, _≈_, ofℕ, _⊗_, ≼-refl, ≼-trans, ≈-refl, ≈-sym, ≈-trans, ≈-le, ≈-ge, ⊗-mono}
+use Rattle.fraction.proofs.Ratio.{⊗-cong, ⊗-comm, ⊗-assoc, ⊗-one-right, ofℕ-≼, ofℕ-⊗, ofℕ-≤, ofℕ-pos, ⊗-pos, ⊗-cancel, ≼-or}
 use Rattle.fraction.proofs.Certificate.{_*'_, same-value}
 use Rattle.fraction.proofs.PowersOfTen.{ten-to, ten-pos, ten-suc, ten-zero, ten-nat, ten-+, ten-≼}
 
@@ -39,6 +40,10 @@ pub multiple-pos : (d : ℕ) (e : ℤ) → 0 < d → 0 < (ofℕ d ⊗ ten-to e) 
 multiple-pos d e h = ⊗-pos _ _ (ofℕ-pos h) (ten-pos e)
 
 -- ---- one power
+
+-- a multiple of 10^0 is its number
+pub ten-units : (n : ℕ) → ofℕ n ⊗ ten-to (pos 0) ≈ ofℕ n
+ten-units n = ≈-trans (⊗-cong (≈-refl _) ten-zero) (⊗-one-right _)
 
 -- a multiple of the next power is ten times as many of this one
 pub ten-step : (c : ℕ) (e : ℤ) → ofℕ c ⊗ ten-to (sucℤ e) ≈ ofℕ (10 * c) ⊗ ten-to e

@@ -1,23 +1,25 @@
 -- The power of a result, bounded by the powers of the operands: at most 20 beyond their sum for a product or a quotient, beyond the larger for
 -- a sum or a difference. So a caller that chains operations knows that every figure on the way is an operand. Assumes nothing.
 use mathlib.Core.Path.{_≡_, refl}
-use mathlib.Core.Bool.{Bool, true, false, cond}
-use Prim.Native.Nat.{ℕ, zero, suc, _+_, _-_, _^_, _≤_, _<_, max}
+use Prim.Native.Nat.{ℕ, zero, suc, _+_, _^_, _≤_, _<_, max}
 use native.Mathlib.Nat.{le-trans, le-of-lt, lt-irrefl, pow-succ'}
 use native.Mathlib.Omega.{arith}
-use lib.Dec.{ltb, leb→le, lit≤}
-use lib.IntN.{ℤ, pos, negsuc, _+ℤ_, subℕ}
+use lib.Dec.{leb→le, lit≤}
+use lib.IntN.{ℤ, pos, negsuc, _+ℤ_}
 use lib.Signed.{mag, _≤ℤ_}
-use Rattle.fraction.proofs.Ratio.{Ratio, _≈_, ofℕ, _⊕_, _⊗_, _⊖_, ≼-refl, ≼-trans, ≈-le, ≈-ge, ⊗-mono, ⊗-one, ⊗-pos, ofℕ-≼, ofℕ-pos, pos-≼}
+use Rattle.fraction.proofs.Ratio.{Ratio, _≈_, ofℕ, _⊕_, _⊗_, _⊖_, ≼-refl, ≼-trans, ≈-le, ≈-ge, ⊗-mono, ⊗-one, ⊗-pos, ofℕ-≼, ofℕ-pos, pos-ofℕ, pos-≼}
 use Rattle.fraction.proofs.Inverse.{inv, _over_, over-is}
 use Rattle.fraction.proofs.Signed.{signed, signed-whole, signed-ratio}
 use Rattle.figure.specs.declared.Figure.{Figure}
 use Rattle.figure.specs.Rounding.{figure, none, IsFigure, is-zero, is-whole, up, down}
-use Rattle.figure.specs.Operations.{times-up, times-down, plus-up, plus-down, minus-up, minus-down, divided-up, divided-down, times-ten, of-whole, of-quantity, total-up, total-down, to-nine-up, to-nine-down, sum-to-nine-up, sum-to-nine-down}
+use Rattle.figure.specs.Operations.{times-up, times-down, plus-up, plus-down, minus-up, minus-down, divided-up, divided-down, times-ten}
+use Rattle.figure.specs.Operations.{of-whole, of-quantity, total-up, total-down, to-nine-up, to-nine-down, sum-to-nine-up, sum-to-nine-down}
 use Rattle.figure.specs.Operands.{Sized, Operand}
 use Rattle.figure.proofs.Scale.{pow-pos, multiple-pos}
 use Rattle.figure.proofs.Value.{val, value-is, Shape, empty, full, shape}
 use Rattle.figure.proofs.Rounding.{up-figure, down-figure}
+use Rattle.figure.proofs.Stored.{mag-sum}
+use Rattle.figure.proofs.Figures.{digits-high}
 use Rattle.figure.proofs.Operations.{value-times, value-plus, value-divided, up-minus, down-minus}
 use Rattle.figure.proofs.Reach.{Reach, Multiple, reach-one, reach-≤, reach-⊗, reach-⊕, reach-inv, reach-⊖, reach-up, reach-down, power-reach, power-multiple, reach-mag}
 
@@ -40,11 +42,7 @@ operand-2000 K f i a b = operand (record { is-figure = i; near = go (f .power) a
 -- ---- from a power to a reach, and back
 
 pub sized-reach : {w m : ℕ} {f : Figure} → Sized (suc w) m f → Reach (suc m) (m + suc w) 1 (val f)
-sized-reach {w} {m} {f} s = power-reach w m (f .digits) (f .power) (small (s .is-figure)) (s .near)
-  where
-    small : IsFigure (suc w) f → f .digits < 10 ^ suc w
-    small (is-zero z p) = rw z (pow-pos (suc w))
-    small (is-whole b t) = t
+sized-reach {w} {m} {f} s = power-reach w m (f .digits) (f .power) (digits-high (s .is-figure)) (s .near)
 
 pub sized-multiple : {K m : ℕ} (n : ℕ) {f : Figure} → m ≤ n → Sized K m f → Multiple (suc n) (val f)
 sized-multiple n {f} h s = power-multiple n (f .digits) (f .power) (le-trans (s .near) h)
@@ -145,19 +143,6 @@ module _ {m n : ℕ} {t s : Figure} (p : Sized 18 m t) (q : Sized 18 n s) where
 
 -- ---- exact operations
 
-mag-sub : (a b : ℕ) → mag (subℕ a b) ≤ a + b
-mag-sub a b = go (ltb a b)
-  where
-    go : (t : Bool) → mag (cond t (negsuc (b - suc a)) (pos (a - b))) ≤ a + b
-    go true = omega arith
-    go false = omega arith
-
-pub mag-plus : (p q : ℤ) → mag (p +ℤ q) ≤ mag p + mag q + 1
-mag-plus (pos a) (pos b) = omega arith
-mag-plus (pos a) (negsuc b) = omega (arith, mag-sub a (suc b))
-mag-plus (negsuc a) (pos b) = omega (arith, mag-sub b (suc a))
-mag-plus (negsuc a) (negsuc b) = omega arith
-
 pub times-ten-sized : {K n : ℕ} {a : Figure} (p : ℤ) → Sized K n a → Sized K (n + mag p + 1) (times-ten a p)
 unfolding times-ten
 times-ten-sized {K} {n} {a} p s = go (a .digits) refl (s .is-figure)
@@ -166,18 +151,14 @@ times-ten-sized {K} {n} {a} p s = go (a .digits) refl (s .is-figure)
         → Sized K (n + mag p + 1) (elim d as (λ _. Figure) [ zero ↦ none | suc d ↦ figure (suc d) (a .power +ℤ p) ])
     go zero e i = record { is-figure = is-zero refl refl; near = omega arith }
     go (suc d) e (is-zero z _) = absurd (lt-irrefl 0 (omega arith))
-    go (suc d) e (is-whole b t) = record { is-figure = is-whole (rw e at b) (rw e at t); near = omega (arith, mag-plus (a .power) p, s .near) }
-
-whole-pos : {n : ℕ} → 0 < (ofℕ n) .num → 0 < n
-unfolding ofℕ
-whole-pos z = z
+    go (suc d) e (is-whole b t) = record { is-figure = is-whole (rw e at b) (rw e at t); near = omega (arith, mag-sum (a .power) p, s .near) }
 
 pub of-whole-sized : (n : ℕ) → n < 10 ^ 18 → Sized 9 20 (of-whole n)
 unfolding of-whole
 of-whole-sized n h = rw (← signed-whole n) (down-sized 8 20 {l = 0} {h = 18} reach (lit≤ tt) (lit≤ tt))
   where
     reach : Reach 0 18 1 (ofℕ n)
-    reach = record { low = λ z. ≼-trans (ofℕ-≼ (whole-pos z)) (≈-ge (⊗-one (ofℕ n))); high = ofℕ-≼ (le-of-lt h) }
+    reach = record { low = λ z. ≼-trans (ofℕ-≼ (pos-ofℕ z)) (≈-ge (⊗-one (ofℕ n))); high = ofℕ-≼ (le-of-lt h) }
 
 pub of-quantity-sized : (c p : ℕ) → c < 10 ^ 9 → Sized 9 (p + 20) (of-quantity c p)
 unfolding of-quantity
@@ -191,6 +172,6 @@ of-quantity-sized c p h = rw (← signed-ratio c (10 ^ p)) (up-sized 8 (p + 20) 
 
     reach : Reach p 9 1 x
     reach = record {
-      low = λ z. ≼-trans (ofℕ-≼ (whole-pos (pos-≼ (≈-le times) (⊗-pos _ _ (ofℕ-pos (pow-pos p)) z)))) (≈-ge times);
+      low = λ z. ≼-trans (ofℕ-≼ (pos-ofℕ (pos-≼ (≈-le times) (⊗-pos _ _ (ofℕ-pos (pow-pos p)) z)))) (≈-ge times);
       high = ≼-trans (≈-ge (⊗-one x)) (≼-trans (⊗-mono (ofℕ-≼ (pow-pos p)) (≼-refl x)) (≼-trans (≈-le times) (ofℕ-≼ (le-of-lt h))));
     }

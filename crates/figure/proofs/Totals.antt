@@ -16,14 +16,13 @@ use Rattle.figure.specs.declared.division.Part.{Part}
 use Rattle.figure.specs.Rounding.{figure, none, value, IsFigure, is-zero, is-whole}
 use Rattle.figure.specs.Operands.{Operand, Sized}
 use Rattle.figure.specs.Steps.{rounded, Width, Ordered, part, shorter, directed, trimmed, gap-of, aligned-sum, widening}
-use Rattle.figure.proofs.Scale.{pow-pos}
+use Rattle.figure.proofs.Scale.{pow-pos, ten-shift}
 use Rattle.figure.proofs.Value.{val, value-is}
 use Rattle.figure.proofs.Operations.{value-plus}
 use Rattle.figure.proofs.Stored.{stored, kept, mag-sum, mag-difference, read-sum, read-difference}
 use Rattle.figure.proofs.Parts.{part-below, shorter-part, shorter-small}
 use Rattle.figure.proofs.Rounded.{over-lift, rounded-part, rounded-trimmed}
 use Rattle.figure.proofs.Figures.{digits-high, digits-low, zero-is-none, room, rounded-own, rounded-same, over-tens}
-use Rattle.figure.proofs.Wholes.{padded-value}
 use Rattle.figure.proofs.Sums.{aligned-small, sum-over}
 
 pub nine : Width 9
@@ -79,7 +78,7 @@ module _ {a : Figure} (o : Operand 9 a) where
     where
       go : IsFigure 9 a → val (widening a) ≈ val a
       go (is-zero z p) = rw (widening-none a z, zero-is-none (lit≤ tt) (o .is-figure) z) (≈-refl _)
-      go (is-whole l h) = rw (widening-whole a (not-zero l)) (padded-value (a .digits) 9 (a .power))
+      go (is-whole l h) = rw (widening-whole a (not-zero l)) (ten-shift (a .digits) 9 (a .power))
 
   pub total-answer : (upward : Bool) (t : Figure) {w r : Figure} → w ≡ widening a → r ≡ rounded upward 18 (value t +ᶠ value w) → r ≡ rounded upward 18 (value t +ᶠ value a)
   total-answer upward t e f =

@@ -17,7 +17,8 @@ use Rattle.fraction.proofs.PowersOfTen.{ten-to}
 use Rattle.fraction.proofs.Signed.{signed}
 use Rattle.figure.specs.declared.Figure.{Figure}
 use Rattle.figure.specs.Rounding.{figure, none, IsFigure, is-zero, IsUp, ceiling, up-from, up}
-use Rattle.figure.proofs.Scale.{pow-pos, not-≼, zero-below, not-zero, multiple-pos, ten-step, ten-step-down, multiple-≤, multiple-≼, Powers, same-power, lower, higher, powers, lower-≼, higher-≼}
+use Rattle.figure.proofs.Scale.{pow-pos, not-≼, zero-below, not-zero, multiple-pos, ten-step, ten-step-down}
+use Rattle.figure.proofs.Scale.{multiple-≤, multiple-≼, Powers, same-power, lower, higher, powers, lower-≼, higher-≼}
 use Rattle.figure.proofs.Counts.{ceiling-reach, ceiling-least}
 use Rattle.figure.proofs.Digits.{start, start-high, start-not-low}
 use Rattle.figure.proofs.Value.{val, below-value, below-val, value-≼, val-≼, low-end, figure-of, Shape, empty, full, shape, figure-same}

@@ -1,27 +1,25 @@
 -- The code's rounding of a whole number times a power of ten to nine digits is the one that is meant. Assumes nothing.
-use mathlib.Core.Path.{_≡_, refl, sym, _∙_, ap, ap₂}
-use mathlib.Core.List.{[], _∷_}
+use mathlib.Core.Path.{_≡_, sym, _∙_, ap, ap₂}
 use mathlib.Core.Bool.{Bool, true, false}
-use Prim.Native.Nat.{ℕ, zero, suc, _+_, _-_, _*_, _/_, _^_, _≤_, _<_}
-use native.Mathlib.Nat.{mul-le-mul-right, mul-lt-mul-of-pos-right, zero-lt-suc, lt-irrefl, div-lt-iff-lt-mul}
-use native.Mathlib.Omega.{arith, patom}
+use Prim.Native.Nat.{ℕ, _+_, _-_, _*_, _/_, _^_, _≤_, _<_}
+use native.Mathlib.Nat.{mul-le-mul-right, mul-lt-mul-of-pos-right, div-lt-iff-lt-mul}
+use native.Mathlib.Omega.{arith}
 use lib.Dec.{lit≤}
-use lib.IntN.{ℤ, pos, negℤ, _+ℤ_, _-ℤ_, -ℤ-+ℤ-cancel, +ℤ-invl}
+use lib.IntN.{ℤ, pos, negℤ, _+ℤ_, _-ℤ_}
 use lib.Pow.{pow-add}
 use lib.Signed.{mag}
 use mir.Syntax.{w64}
 use mir.Val.{Fits}
 use Rattle.fraction.specs.Fraction.{whole, ratio}
-use Rattle.fraction.proofs.Ratio.{Ratio, _≈_, ofℕ, _⊗_, ≈-refl, ≈-sym, ≈-trans, ⊗-cong, ⊗-comm, ⊗-assoc, ⊗-one, ofℕ-⊗}
-use Rattle.fraction.proofs.Certificate.{_*'_, same-value}
-use Rattle.fraction.proofs.PowersOfTen.{ten-to, ten-zero, ten-+, ten-nat}
-use Rattle.fraction.proofs.Signed.{signed, signed-whole}
+use Rattle.fraction.proofs.Ratio.{≈-refl, ≈-sym}
+use Rattle.fraction.proofs.Signed.{signed-whole, signed-ratio}
 use Rattle.figure.specs.declared.Figure.{Figure}
 use Rattle.figure.specs.declared.division.Part.{Part}
 use Rattle.figure.specs.Rounding.{figure, none, value, is-whole, up, down}
 use Rattle.figure.specs.Steps.{rounded, part, directed, Count}
-use Rattle.figure.proofs.Scale.{pow-pos}
-use Rattle.figure.proofs.Value.{val, value-is}
+use Rattle.figure.proofs.Scale.{pow-pos, ten-units, ten-shift}
+use Rattle.figure.proofs.Value.{value-is}
+use Rattle.figure.proofs.Exact.{over-ten}
 use Rattle.figure.proofs.Stored.{stored, kept, kept-near, mag-sum, mag-difference, mag-negative, read-sum, read-difference}
 use Rattle.figure.proofs.Parts.{part-below}
 use Rattle.figure.proofs.Rounded.{rounded-part}
@@ -35,14 +33,6 @@ more-digits {n} {r} d = record {
   reached = rw (pow-add 10 10 r) (omega (arith, d .reached));
   most = omega (arith, d .most);
 }
-
--- ---- zeros put behind a number
-
-pub padded-value : (n k : ℕ) (e : ℤ) → ofℕ (n * 10 ^ k) ⊗ ten-to (e -ℤ pos k) ≈ ofℕ n ⊗ ten-to e
-padded-value n k e =
-    ≈-trans (⊗-cong (ofℕ-⊗ n (10 ^ k)) (≈-refl _))
-    (≈-trans (same-value (ofℕ n ∷ ofℕ (10 ^ k) ∷ ten-to (e -ℤ pos k) ∷ []) (patom 0 *' patom 1 *' patom 2) (patom 0 *' (patom 2 *' patom 1)) tt tt)
-    (⊗-cong (≈-refl _) (rw (-ℤ-+ℤ-cancel e (pos k)) at (≈-trans (⊗-cong (≈-refl _) (≈-sym (ten-nat k))) (≈-sym (ten-+ (e -ℤ pos k) (pos k)))))))
 
 -- ---- the code's, of n times 10^e
 
@@ -72,7 +62,7 @@ module _ {n r t : ℕ} (d : Count 20 n r) (h : r ≤ 9) (t-is : t ≡ 10 ^ (9 - 
 
     pub padding-answer : (upward : Bool) {u : ℤ} → u ≡ stored e -ℤ stored z → figure (n * t) (stored u) ≡ rounded upward 9 (value (figure n e))
     padding-answer upward {u} f = ap₂ figure (ap (λ m. n * m) t-is) power ∙ sym (ap (rounded upward 9) (value-is (figure n e))
-        ∙ sym (rounded-same upward 8 (padded-value n (9 - r) e)) ∙ ap (rounded upward 9) (sym (value-is padded)) ∙ rounded-own upward 8 padded (is-whole low high))
+        ∙ sym (rounded-same upward 8 (ten-shift n (9 - r) e)) ∙ ap (rounded upward 9) (sym (value-is padded)) ∙ rounded-own upward 8 padded (is-whole low high))
       where
         padded : Figure
         padded = figure (n * 10 ^ (9 - r)) (e -ℤ pos (9 - r))
@@ -122,25 +112,8 @@ module _ {n r t : ℕ} (d : Count 20 n r) (h : 9 < r) (t-is : t ≡ 10 ^ (r - 9)
 
 -- ---- whole numbers and quantities
 
-whole-value : (n : ℕ) → val (figure n (pos 0)) ≈ ofℕ n
-whole-value n = ≈-trans (⊗-cong (≈-refl _) ten-zero) (≈-trans (⊗-comm _ _) (⊗-one _))
-
 pub of-whole-answer : (n : ℕ) {r : Figure} → r ≡ down 9 (value (figure n (pos 0))) → r ≡ down 9 (whole n)
-of-whole-answer n e = e ∙ ap (down 9) (value-is (figure n (pos 0))) ∙ rounded-same false 8 (whole-value n) ∙ ap (down 9) (signed-whole n)
-
--- c / d is what d times makes c
-ratio-rounded : (upward : Bool) (w : ℕ) (x : Ratio) (c d : ℕ) → 0 < d → x ⊗ ofℕ d ≈ ofℕ c → rounded upward (suc w) (signed x) ≡ rounded upward (suc w) (ratio (pos c) d)
-ratio-rounded upward w x c zero h e = absurd (lt-irrefl 0 h)
-ratio-rounded upward w x c (suc k) h e = rounded-same upward w (record { eq = crosswise }) ∙ ap (rounded upward (suc w)) signed-is
-  where
-    q : Ratio
-    q = record { num = c; den = suc k; den-pos = zero-lt-suc k }
-
-    crosswise : x .num * suc k ≡ c * x .den
-    crosswise = unfold _⊗_ ofℕ in omega (arith, e .eq)
-
-    signed-is : signed q ≡ ratio (pos c) (suc k)
-    signed-is = unfold signed ratio in refl
+of-whole-answer n e = e ∙ ap (down 9) (value-is (figure n (pos 0))) ∙ rounded-same false 8 (ten-units n) ∙ ap (down 9) (signed-whole n)
 
 module _ (p : ℕ) {z : ℤ} (h : p ≤ 255) (z-is : z ≡ negℤ (pos p)) where
   power-kept : stored z ≡ negℤ (pos p)
@@ -151,10 +124,4 @@ module _ (p : ℕ) {z : ℤ} (h : p ≤ 255) (z-is : z ≡ negℤ (pos p)) where
 
   pub quantity-answer : (c : ℕ) {m : ℕ} {r : Figure} → m ≡ c → r ≡ up 9 (value (figure m (stored z))) → r ≡ up 9 (ratio (pos c) (10 ^ p))
   quantity-answer c f g = g ∙ ap₂ (λ n y. up 9 (value (figure n y))) f power-kept
-      ∙ ap (up 9) (value-is (figure c (negℤ (pos p)))) ∙ ratio-rounded true 8 (val (figure c (negℤ (pos p)))) c (10 ^ p) (pow-pos p) back
-    where
-      one : ten-to (negℤ (pos p)) ⊗ ofℕ (10 ^ p) ≈ ofℕ 1
-      one = ≈-trans (⊗-cong (≈-refl _) (≈-sym (ten-nat p))) (≈-trans (≈-sym (ten-+ (negℤ (pos p)) (pos p))) (rw (+ℤ-invl (pos p)) ten-zero))
-
-      back : val (figure c (negℤ (pos p))) ⊗ ofℕ (10 ^ p) ≈ ofℕ c
-      back = ≈-trans (⊗-assoc _ _ _) (≈-trans (⊗-cong (≈-refl _) one) (≈-trans (⊗-comm _ _) (⊗-one _)))
+      ∙ ap (up 9) (value-is (figure c (negℤ (pos p)))) ∙ rounded-same true 8 (≈-sym (over-ten c p)) ∙ ap (up 9) (signed-ratio c (10 ^ p))

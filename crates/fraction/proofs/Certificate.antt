@@ -15,7 +15,8 @@ use Prim.Native.Nat.{ℕ, zero, suc, _+_, _*_, _-_, _≤_, _<_, compare, Orderin
 use native.Mathlib.Omega.{arith, P, patom, plit, padd, pmul, pnxt, pick, ins, join, Sum, none, more, both, scale, times, flat}
 use native.Mathlib.Nat.{le-of-lt}
 use lib.Dec.{T, eqb, eqb→eq, leb, leb→le, nleb→lt}
-use Rattle.fraction.proofs.Ratio.{Ratio, _≼_, _≈_, ofℕ, _⊕_, _⊗_, ≼-refl, ≼-trans, ≈-refl, ≈-sym, ≈-trans, ≈-le, ≈-ge, ⊕-mono, ⊗-mono, ⊕-cong, ⊗-cong, ⊕-cancel, ⊕-comm, ⊕-assoc, ⊕-zero, ⊗-comm, ⊗-assoc, ⊗-one, ⊗-zero, ⊗-⊕, ofℕ-⊕, ofℕ-⊗, zero-≼, ≼-antisym}
+use Rattle.fraction.proofs.Ratio.{Ratio, _≼_, _≈_, ofℕ, _⊕_, _⊗_, ≼-refl, ≼-trans, ≈-refl, ≈-sym, ≈-trans, ≈-le, ≈-ge, ⊕-mono, ⊗-mono, ⊕-cong, ⊗-cong}
+use Rattle.fraction.proofs.Ratio.{⊕-cancel, ⊕-comm, ⊕-assoc, ⊕-zero, ⊗-comm, ⊗-assoc, ⊗-one, ⊗-one-right, ⊗-zero, ⊗-⊕, ofℕ-⊕, ofℕ-⊗, zero-≼, ≼-antisym}
 
 infixl 60 _+'_
 infixl 70 _*'_
@@ -94,10 +95,10 @@ total-times (more k m s) t ρ = ≈-trans (total-both (scale k m t) (times s t) 
     (≈-trans (⊕-cong (total-scale k m t ρ) (total-times s t ρ)) (≈-sym (⊕-⊗ (ofℕ k ⊗ mono m ρ) (total s ρ) (total t ρ))))
 
 one-mono : (x : Ratio) → ofℕ 1 ⊗ (x ⊗ ofℕ 1) ⊕ ofℕ 0 ≈ x
-one-mono x = ≈-trans (⊕-comm _ _) (≈-trans (⊕-zero _) (≈-trans (⊗-one _) (≈-trans (⊗-comm x (ofℕ 1)) (⊗-one x))))
+one-mono x = ≈-trans (⊕-comm _ _) (≈-trans (⊕-zero _) (≈-trans (⊗-one _) (⊗-one-right x)))
 
 lit-mono : (k : ℕ) → ofℕ k ⊗ ofℕ 1 ⊕ ofℕ 0 ≈ ofℕ k
-lit-mono k = ≈-trans (⊕-comm _ _) (≈-trans (⊕-zero _) (≈-trans (⊗-comm _ _) (⊗-one (ofℕ k))))
+lit-mono k = ≈-trans (⊕-comm _ _) (≈-trans (⊕-zero _) (⊗-one-right (ofℕ k)))
 
 flat-sound : (p : P) (ρ : List Ratio) → val p ρ ≈ total (flat p) ρ
 flat-sound (patom i) ρ = ≈-sym (one-mono (nth ρ i))

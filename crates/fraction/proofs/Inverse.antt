@@ -1,12 +1,13 @@
--- Quotients of natural fractions: `m over n`, one over a fraction, and how orders move across them. Dividing by 0 gives 0, as in
--- `specs/Fraction`; a law asks for a positive divisor only where it would fail without one.
+-- Quotients of natural fractions: `m over n`, and one over a fraction. Dividing by 0 gives 0, as in `specs/Fraction`; a law asks for a positive
+-- divisor only where it would fail without one.
 use mathlib.Core.Path.{_≡_, refl, ap}
 use mathlib.Core.List.{[], _∷_}
 use mathlib.Core.Logic.{⊎-elim}
 use Prim.Native.Nat.{ℕ, zero, suc, _<_}
 use native.Mathlib.Nat.{zero-lt-suc, lt-irrefl}
 use native.Mathlib.Omega.{arith, patom, plit}
-use Rattle.fraction.proofs.Ratio.{Ratio, _≼_, _≈_, ofℕ, _⊗_, ≼-refl, ≼-trans, ≼-antisym, ≈-refl, ≈-sym, ≈-trans, ≈-le, ≈-ge, ⊗-mono, ⊗-cong, ⊗-comm, ⊗-one, ⊗-zero, ⊗-cancel, ⊗-pos, num-zero, zero-num, zero-or-pos, pos-≼}
+use Rattle.fraction.proofs.Ratio.{Ratio, _≼_, _≈_, ofℕ, _⊗_, ≼-antisym, ≈-refl, ≈-sym, ≈-trans, ≈-le, ≈-ge, ⊗-cong}
+use Rattle.fraction.proofs.Ratio.{⊗-comm, ⊗-one, ⊗-zero, ⊗-cancel, ⊗-pos, num-zero, zero-num, zero-or-pos, pos-≼}
 use Rattle.fraction.proofs.Certificate.{_*'_, prove, same-value, hyp}
 
 infix 75 _over_
@@ -104,33 +105,8 @@ unfolding _over_ ofℕ _⊗_ inv
 over-≈ m zero = record { eq = omega arith }
 over-≈ m (suc n) = record { eq = omega arith }
 
--- ---- orders
-
 -- the larger divisor gives the smaller quotient
 pub inv-≼ : {x y : Ratio} → x ≼ y → 0 < x .num → inv y ≼ inv x
 inv-≼ {x} {y} p h = ⊗-cancel x h (prove (x ∷ y ∷ inv x ∷ inv y ∷ [])
     (hyp (patom 3) (patom 0) (patom 1) ∷ hyp (plit 1) (patom 1 *' patom 3) (plit 1) ∷ hyp (plit 1) (plit 1) (patom 0 *' patom 2) ∷ [])
     (patom 0 *' patom 3) (patom 0 *' patom 2) tt p (≈-le (inv-is y (pos-≼ p h))) (≈-ge (inv-is x h)))
-
--- a quotient times its divisor
-pub quotient-⊗ : (x y : Ratio) → 0 < y .num → (x ⊗ inv y) ⊗ y ≈ x
-quotient-⊗ x y h = ≈-trans reorder (≈-trans (⊗-cong (inv-is y h) (≈-refl x)) (⊗-one x))
-  where
-    reorder : (x ⊗ inv y) ⊗ y ≈ (y ⊗ inv y) ⊗ x
-    reorder = same-value (x ∷ y ∷ inv y ∷ []) (patom 0 *' patom 2 *' patom 1) (patom 1 *' patom 2 *' patom 0) tt tt
-
--- a divisor moves to the other side of an order, as a factor, and back
-module _ (x y z : Ratio) (h : 0 < y .num) where
-  pub divide-≼ : x ≼ z ⊗ y → x ⊗ inv y ≼ z
-  divide-≼ p = prove (x ∷ y ∷ inv y ∷ z ∷ []) (hyp (patom 2) (patom 0) (patom 3 *' patom 1) ∷ hyp (patom 3) (patom 1 *' patom 2) (plit 1) ∷ [])
-      (patom 0 *' patom 2) (patom 3) tt p (≈-le (inv-is y h))
-
-  pub ≼-divide : z ⊗ y ≼ x → z ≼ x ⊗ inv y
-  ≼-divide p = prove (x ∷ y ∷ inv y ∷ z ∷ []) (hyp (patom 2) (patom 3 *' patom 1) (patom 0) ∷ hyp (patom 3) (plit 1) (patom 1 *' patom 2) ∷ [])
-      (patom 3) (patom 0 *' patom 2) tt p (≈-ge (inv-is y h))
-
-  pub undivide-≼ : x ⊗ inv y ≼ z → x ≼ z ⊗ y
-  undivide-≼ p = ≼-trans (≈-ge (quotient-⊗ x y h)) (⊗-mono p (≼-refl y))
-
-  pub ≼-undivide : z ≼ x ⊗ inv y → z ⊗ y ≼ x
-  ≼-undivide p = ≼-trans (⊗-mono p (≼-refl y)) (≈-le (quotient-⊗ x y h))

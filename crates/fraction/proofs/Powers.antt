@@ -1,11 +1,11 @@
 -- Powers of natural fractions with a natural exponent.
 use mathlib.Core.Path.{_≡_, refl}
 use mathlib.Core.List.{[], _∷_}
-use Prim.Native.Nat.{ℕ, zero, suc, _+_, _^_, _<_}
+use Prim.Native.Nat.{ℕ, zero, suc, _+_, _^_}
 use native.Mathlib.Nat as Nat
-use native.Mathlib.Nat.{zero-lt-suc, zero-add}
+use native.Mathlib.Nat.{zero-add}
 use native.Mathlib.Omega.{arith, patom}
-use Rattle.fraction.proofs.Ratio.{Ratio, _≼_, _≈_, ofℕ, _⊗_, ≼-refl, ≈-refl, ≈-sym, ≈-trans, ⊗-mono, ⊗-cong, ⊗-one, ⊗-assoc, ⊗-pos, ofℕ-⊗, ofℕ-pos}
+use Rattle.fraction.proofs.Ratio.{Ratio, _≈_, ofℕ, _⊗_, ≈-refl, ≈-sym, ≈-trans, ⊗-cong, ⊗-one, ⊗-assoc, ofℕ-⊗, ⊗-one-right}
 use Rattle.fraction.proofs.Certificate.{_*'_, same-value}
 use Rattle.fraction.proofs.Inverse.{inv, inv-⊗, inv-ofℕ, _over_}
 
@@ -14,28 +14,10 @@ unfoldable pub pow : Ratio → ℕ → Ratio
 pow x zero = ofℕ 1
 pow x (suc k) = x ⊗ pow x k
 
-pub pow-zero : (x : Ratio) → pow x 0 ≡ ofℕ 1
-unfolding pow
-pow-zero x = refl
-
-pub pow-suc : (x : Ratio) (k : ℕ) → pow x (suc k) ≡ x ⊗ pow x k
-unfolding pow
-pow-suc x k = refl
-
-pub pow-mono : {x y : Ratio} (k : ℕ) → x ≼ y → pow x k ≼ pow y k
-unfolding pow
-pow-mono zero h = ≼-refl _
-pow-mono (suc k) h = ⊗-mono h (pow-mono k h)
-
 pub pow-cong : {x y : Ratio} (k : ℕ) → x ≈ y → pow x k ≈ pow y k
 unfolding pow
 pow-cong zero e = ≈-refl _
 pow-cong (suc k) e = ⊗-cong e (pow-cong k e)
-
-pub pow-pos : (x : Ratio) (k : ℕ) → 0 < x .num → 0 < (pow x k) .num
-unfolding pow
-pow-pos x zero h = ofℕ-pos (zero-lt-suc 0)
-pow-pos x (suc k) h = ⊗-pos x (pow x k) h (pow-pos x k h)
 
 pub pow-⊗ : (x y : Ratio) (k : ℕ) → pow (x ⊗ y) k ≈ pow x k ⊗ pow y k
 unfolding pow
@@ -53,6 +35,10 @@ pub pow-ofℕ : (n k : ℕ) → pow (ofℕ n) k ≈ ofℕ (n ^ k)
 unfolding pow
 pow-ofℕ n zero = simp Nat.pow-zero (≈-refl _)
 pow-ofℕ n (suc k) = rw (Nat.pow-succ' n k) (≈-trans (⊗-cong (≈-refl _) (pow-ofℕ n k)) (≈-sym (ofℕ-⊗ n (n ^ k))))
+
+pub pow-two : (x : Ratio) → pow x 2 ≈ x ⊗ x
+unfolding pow
+pow-two x = ⊗-cong (≈-refl x) (⊗-one-right x)
 
 pub pow-inv : (x : Ratio) (k : ℕ) → pow (inv x) k ≈ inv (pow x k)
 unfolding pow

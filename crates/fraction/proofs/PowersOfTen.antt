@@ -6,7 +6,7 @@ use native.Mathlib.Nat.{zero-lt-suc, one-le-pow, pow-succ'}
 use native.Mathlib.Omega.{arith, patom}
 use lib.IntN.{ℤ, pos, negsuc, sucℤ, predℤ, _+ℤ_, +ℤ-idr, +ℤ-sucℤ, +ℤ-predℤ, -ℤ-+ℤ-cancel, subℕ}
 use Rattle.fraction.proofs.Integers.{minus-is}
-use Rattle.fraction.proofs.Ratio.{Ratio, _≼_, _≈_, ofℕ, _⊗_, ≼-refl, ≼-trans, ≈-refl, ≈-sym, ≈-trans, ≈-le, ≈-ge, ⊗-mono, ⊗-cong, ⊗-comm, ⊗-one, ofℕ-≼}
+use Rattle.fraction.proofs.Ratio.{Ratio, _≼_, _≈_, ofℕ, _⊗_, ≼-trans, ≈-refl, ≈-sym, ≈-trans, ≈-ge, ⊗-cong, ofℕ-≼, ⊗-one-right, ≼-⊗}
 use Rattle.fraction.proofs.Certificate.{_*'_, same-value}
 
 -- ten to the power p
@@ -53,7 +53,7 @@ step t x y p q r = ≈-trans p (≈-trans (⊗-cong (≈-refl t) q) (≈-trans s
     swap = same-value (t ∷ x ∷ y ∷ []) (patom 0 *' (patom 1 *' patom 2)) (patom 1 *' (patom 0 *' patom 2)) tt tt
 
 ten-+0 : (p : ℤ) → ten-to (p +ℤ pos 0) ≈ ten-to p ⊗ ten-to (pos 0)
-ten-+0 p = rw +ℤ-idr (≈-trans (≈-sym (⊗-one (ten-to p))) (≈-trans (⊗-comm _ _) (⊗-cong (≈-refl _) (≈-sym ten-zero))))
+ten-+0 p = rw +ℤ-idr (≈-trans (≈-sym (⊗-one-right (ten-to p))) (⊗-cong (≈-refl _) (≈-sym ten-zero)))
 
 pub ten-+ : (p q : ℤ) → ten-to (p +ℤ q) ≈ ten-to p ⊗ ten-to q
 ten-+ p (pos zero) = ten-+0 p
@@ -64,7 +64,7 @@ ten-+ p (negsuc (suc n)) = rw (+ℤ-predℤ p (negsuc n)) (step _ _ _ (ten-pred 
 -- ---- hence: the order of powers, and differences of exponents
 
 pub ten-≼ : (p : ℤ) (k : ℕ) → ten-to p ≼ ten-to (p +ℤ pos k)
-ten-≼ p k = ≼-trans (≈-ge (⊗-one (ten-to p))) (≼-trans (⊗-mono one-≼ (≼-refl (ten-to p))) (≈-le (≈-trans (⊗-comm _ _) (≈-sym (ten-+ p (pos k))))))
+ten-≼ p k = ≼-trans (≼-⊗ (ten-to p) one-≼) (≈-ge (ten-+ p (pos k)))
   where
     one-≼ : ofℕ 1 ≼ ten-to (pos k)
     one-≼ = ≼-trans (ofℕ-≼ (one-le-pow k 10 (zero-lt-suc 9))) (≈-ge (ten-nat k))

@@ -14,9 +14,11 @@ use Rattle.fraction.proofs.Integers.{natural, is-self, is-pos, is-times
 use Rattle.fraction.proofs.Ratio.{Ratio, ofℕ, _⊗_, ⊗-pos, zero-≼}
 use Rattle.fraction.proofs.Inverse.{inv, inv-is, over-≈}
 use Rattle.fraction.proofs.PowersOfTen.{ten-to, ten-pos, ten-+}
-use Rattle.fraction.proofs.Signed.{signed, signed-whole, signed-⊗, signed-inv, signed-ten, signed-ratio, signed-quotient, signed-≼, signed-≈, signed-positive, nonnegative, nonnegative-none, signed-positive-natural, nonnegative-positive}
+use Rattle.fraction.proofs.Signed.{signed, signed-whole, signed-⊗, signed-inv, signed-ten, signed-ratio, signed-quotient, signed-≼}
+use Rattle.fraction.proofs.Signed.{signed-≈, signed-positive, nonnegative, nonnegative-none, signed-positive-natural, nonnegative-positive}
 use Rattle.fraction.proofs.SignedCertificate.{var, lit, _⊞_, _⊠_, order, prove-signed, same-signed}
-use Rattle.fraction.proofs.Laws.{≤ᶠ-refl, ≤ᶠ-trans, ≤ᶠ-antisym, ≈ᶠ-refl, ≈ᶠ-sym, ≈ᶠ-trans, ≈ᶠ-≤, ≈ᶠ-≥, *ᶠ-comm, *ᶠ-assoc, *ᶠ-one, *ᶠ-zero, *ᶠ-cong, *ᶠ-mono, *ᶠ-mono-left, *ᶠ-mono-right, *ᶠ-nonneg, whole-≤}
+use Rattle.fraction.proofs.Laws.{≤ᶠ-refl, ≤ᶠ-trans, ≤ᶠ-antisym, ≈ᶠ-refl, ≈ᶠ-sym, ≈ᶠ-trans, ≈ᶠ-≤, ≈ᶠ-≥, *ᶠ-comm, *ᶠ-assoc}
+use Rattle.fraction.proofs.Laws.{*ᶠ-one, *ᶠ-zero, *ᶠ-cong, *ᶠ-mono, *ᶠ-mono-left, *ᶠ-mono-right, *ᶠ-nonneg, whole-≤}
 
 -- ---- positive fractions
 

@@ -1,10 +1,10 @@
 -- Fractions that are not negative: numerator and denominator natural, the denominator positive, compared by multiplying crosswise.
 -- Statements for readers speak of the signed fractions of `specs/Fraction`; proofs are done here, where `omega arith` can do the algebra, and
 -- `Signed` carries the results over. Every operation is shut; other modules use the laws. `≈` is equality as fractions.
-use mathlib.Core.Path.{_≡_, refl, sym, ap}
+use mathlib.Core.Path.{_≡_, refl, sym, _∙_, ap, ap₂}
 use mathlib.Core.Logic.{_⊎_, inl, inr, ⊎-elim}
 use Prim.Native.Nat.{ℕ, zero, suc, _+_, _*_, _-_, _≤_, _<_, zero-le, suc-le-suc}
-use native.Mathlib.Nat.{mul-pos, mul-le-mul-right, le-of-mul-le-mul-right, eq-of-mul-eq-mul-right, le-of-eq, le-refl, zero-lt-suc, le-antisymm, le-of-lt}
+use native.Mathlib.Nat.{mul-pos, mul-le-mul-right, le-of-mul-le-mul-right, eq-of-mul-eq-mul-right, le-of-eq, le-refl, zero-lt-suc, le-antisymm, le-of-lt, mul-sub, eq-zero-or-pos}
 use native.Mathlib.Omega.{arith}
 
 infix 50 _≼_ _≈_
@@ -128,6 +128,10 @@ pub ⊗-one : (x : Ratio) → ofℕ 1 ⊗ x ≈ x
 unfolding _⊗_ ofℕ
 ⊗-one x = record { eq = omega arith }
 
+pub ⊗-one-right : (x : Ratio) → x ⊗ ofℕ 1 ≈ x
+unfolding _⊗_ ofℕ
+⊗-one-right x = record { eq = omega arith }
+
 pub ⊗-zero : (x : Ratio) → ofℕ 0 ⊗ x ≈ ofℕ 0
 unfolding _⊗_ ofℕ
 ⊗-zero x = record { eq = omega arith }
@@ -180,6 +184,10 @@ pub ofℕ-pos : {n : ℕ} → 0 < n → 0 < (ofℕ n) .num
 unfolding ofℕ
 ofℕ-pos h = h
 
+pub pos-ofℕ : {n : ℕ} → 0 < (ofℕ n) .num → 0 < n
+unfolding ofℕ
+pos-ofℕ h = h
+
 pub ⊗-pos : (x y : Ratio) → 0 < x .num → 0 < y .num → 0 < (x ⊗ y) .num
 unfolding _⊗_
 ⊗-pos x y h k = mul-pos h k
@@ -192,6 +200,18 @@ pos-≼ {x} {y} p h = go (y .num) (p .le) (mul-pos h (y .den-pos))
     go zero l k = omega arith
     go (suc n) l k = zero-lt-suc n
 
+-- the factors of a positive product are positive
+pub pos-left : (x y : Ratio) → 0 < (x ⊗ y) .num → 0 < x .num
+unfolding _⊗_
+pos-left x y h = go (x .num) h
+  where
+    go : (n : ℕ) → 0 < n * y .num → 0 < n
+    go zero k = omega arith
+    go (suc n) k = zero-lt-suc n
+
+pub pos-right : (x y : Ratio) → 0 < (x ⊗ y) .num → 0 < y .num
+pos-right x y h = pos-left y x (pos-≼ (≈-le (⊗-comm x y)) h)
+
 -- a fraction with numerator 0 is 0
 pub num-zero : (x : Ratio) → x .num ≡ 0 → x ≈ ofℕ 0
 unfolding ofℕ
@@ -203,17 +223,18 @@ zero-num e = omega (arith, e .eq)
 
 -- every fraction is 0 or positive
 pub zero-or-pos : (x : Ratio) → (x .num ≡ 0) ⊎ (0 < x .num)
-zero-or-pos x = go (x .num)
-  where
-    go : (n : ℕ) → (n ≡ 0) ⊎ (0 < n)
-    go zero = inl refl
-    go (suc n) = inr (zero-lt-suc n)
+zero-or-pos x = eq-zero-or-pos (x .num)
 
--- ---- differences
+-- ---- what makes a fraction larger
 
 pub ≼-⊕ : (x y : Ratio) → x ≼ x ⊕ y
 unfolding _⊕_
 ≼-⊕ x y = record { le = omega arith }
+
+pub ≼-⊗ : (x : Ratio) {y : Ratio} → ofℕ 1 ≼ y → x ≼ x ⊗ y
+≼-⊗ x h = ≼-trans (≈-ge (⊗-one-right x)) (⊗-mono (≼-refl x) h)
+
+-- ---- differences
 
 -- `x ⊖ y` is the least fraction that, y added, reaches x: it reaches x, ..
 pub ⊖-le : (x y : Ratio) → x ≼ (x ⊖ y) ⊕ y
@@ -226,24 +247,22 @@ unfolding _⊕_ _⊖_
 -- .. and stays below every other that does
 pub ⊖-adj : (x y z : Ratio) → x ≼ z ⊕ y → x ⊖ y ≼ z
 unfolding _⊕_ _⊖_
-⊖-adj x y z h = record { le = go (x .num) (x .den) (y .num) (y .den) (z .num) (z .den) (h .le) (y .den-pos) }
+⊖-adj x y z h = record {
+  le = ⊎-elim (λ u. small (x .num) (x .den) (y .num) (y .den) (z .num) (z .den) (u .le))
+      (λ u. large (x .num) (x .den) (y .num) (y .den) (z .num) (z .den) (u .le) (h .le)) (≼-or x y);
+}
   where
-    go : (a b c d e f : ℕ) → a * (f * d) ≤ (e * d + c * f) * b → 0 < d → (a * d - c * b) * f ≤ e * (b * d)
-    go a b c d e f p q = ⊎-elim small large (le-or (a * d) (c * b))
-      where
-        le-or : (m n : ℕ) → (m ≤ n) ⊎ (n ≤ m)
-        le-or zero n = inl (omega arith)
-        le-or (suc m) zero = inr (omega arith)
-        le-or (suc m) (suc n) = ⊎-elim (λ u. inl (omega arith)) (λ u. inr (omega arith)) (le-or m n)
+    small : (a b c d e f : ℕ) → a * d ≤ c * b → (a * d - c * b) * f ≤ e * (b * d)
+    small a b c d e f u = let z : a * d - c * b ≡ 0 = omega arith in rw z (omega arith)
 
-        small : a * d ≤ c * b → (a * d - c * b) * f ≤ e * (b * d)
-        small u = let z : a * d - c * b ≡ 0 = omega arith in rw z (omega arith)
-
-        large : c * b ≤ a * d → (a * d - c * b) * f ≤ e * (b * d)
-        large u = let s : a * d - c * b + c * b ≡ a * d = omega arith in omega (arith, ap (λ t. t * f) s)
+    large : (a b c d e f : ℕ) → c * b ≤ a * d → a * (f * d) ≤ (e * d + c * f) * b → (a * d - c * b) * f ≤ e * (b * d)
+    large a b c d e f u p = let s : a * d - c * b + c * b ≡ a * d = omega arith in omega (arith, ap (λ t. t * f) s)
 
 pub ⊖-mono : {x x′ y y′ : Ratio} → x ≼ x′ → y′ ≼ y → x ⊖ y ≼ x′ ⊖ y′
 ⊖-mono {x} {x′} {y} {y′} p q = ⊖-adj x y (x′ ⊖ y′) (≼-trans p (≼-trans (⊖-le x′ y′) (⊕-mono (≼-refl _) q)))
+
+pub ⊖-cong : {x x′ y y′ : Ratio} → x ≈ x′ → y ≈ y′ → x ⊖ y ≈ x′ ⊖ y′
+⊖-cong p q = ≼-antisym (⊖-mono (≈-le p) (≈-ge q)) (⊖-mono (≈-ge p) (≈-le q))
 
 pub ⊖-cap : (x y : Ratio) → x ⊖ y ≼ x
 ⊖-cap x y = ⊖-adj x y x (≼-⊕ x y)
@@ -251,6 +270,30 @@ pub ⊖-cap : (x y : Ratio) → x ⊖ y ≼ x
 -- a difference that is not positive is 0, so below everything
 pub ⊖-none : (x y z : Ratio) → x ≼ y → x ⊖ y ≼ z
 ⊖-none x y z h = ⊖-adj x y z (≼-trans h (≼-trans (≼-⊕ y z) (≈-le (⊕-comm y z))))
+
+pub ⊖-nothing : {x y : Ratio} → x ≼ y → (x ⊖ y) .num ≡ 0
+unfolding _⊖_
+⊖-nothing h = omega (arith, h .le)
+
+pub ⊖-zero : (x y : Ratio) → y .num ≡ 0 → x ⊖ y ≈ x
+unfolding _⊖_
+⊖-zero x y z = record { eq = rw z (go (x .num) (x .den) (y .den)) }
+  where
+    go : (a b d : ℕ) → (a * d - 0 * b) * b ≡ a * (b * d)
+    go a b d = let e : a * d - 0 * b ≡ a * d = omega arith in rw e (omega arith)
+
+-- of two multiples of one number
+pub ⊖-multiples : (m s : ℕ) (y : Ratio) → (ofℕ m ⊗ y) ⊖ (ofℕ s ⊗ y) ≈ ofℕ (m - s) ⊗ y
+unfolding _⊗_ _⊖_ ofℕ
+⊖-multiples m s y = record { eq = go (y .num) (y .den) }
+  where
+    go : (n d : ℕ) → (m * n * (1 * d) - s * n * (1 * d)) * (1 * d) ≡ (m - s) * n * (1 * d * (1 * d))
+    go n d =
+        let k : m * n * (1 * d) - s * n * (1 * d) ≡ n * (1 * d) * (m - s) = ap₂ _-_ (order m) (order s) ∙ sym (mul-sub (n * (1 * d)) m s) in
+        rw k (omega arith)
+      where
+        order : (c : ℕ) → c * n * (1 * d) ≡ n * (1 * d) * c
+        order c = omega arith
 
 -- where y is not above x, y added gives x back
 pub ⊖-back : {x y : Ratio} → y ≼ x → (x ⊖ y) ⊕ y ≈ x

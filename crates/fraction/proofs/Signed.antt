@@ -4,7 +4,7 @@ use mathlib.Core.Path.{_≡_, refl, sym, _∙_, ap}
 use Prim.Native.Nat.{ℕ, zero, suc, _*_, _≤_, _<_}
 use native.Mathlib.Nat.{mul-pos}
 use native.Mathlib.Omega.{arith}
-use lib.Dec.{ltb→lt, lt→ltb, leb, leb→le, le→leb}
+use lib.Dec.{lt→ltb, leb, leb→le, le→leb}
 use lib.IntN.{ℤ, pos, negsuc, _*ℤ_}
 use lib.Signed.{_≤ℤ_, _<ℤ_}
 use Rattle.fraction.specs.Fraction.{Fraction, _≤ᶠ_, _≈ᶠ_, at-most, whole, ratio, inverse, ten, _+ᶠ_, _-ᶠ_, _*ᶠ_, _/ᶠ_, _^ᶠ_}
@@ -70,10 +70,6 @@ pub signed-≈ : {x y : Ratio} → x ≈ y → signed x ≈ᶠ signed y
 unfolding signed
 signed-≈ h = record { eq = ap pos (h .eq) }
 
-pub ≈-signed : {x y : Ratio} → signed x ≈ᶠ signed y → x ≈ y
-unfolding signed
-≈-signed h = record { eq = ap natural (h .eq) }
-
 pub at-most-signed : (x y : Ratio) → at-most (signed x) (signed y) ≡ leb (x .num * y .den) (y .num * x .den)
 unfolding signed at-most
 at-most-signed x y = refl
@@ -81,10 +77,6 @@ at-most-signed x y = refl
 pub signed-positive : (x : Ratio) → 0 < x .num → pos 0 <ℤ (signed x) .num
 unfolding signed
 signed-positive x h = record { lt = lt→ltb _ _ h }
-
-pub positive-signed : (x : Ratio) → pos 0 <ℤ (signed x) .num → 0 < x .num
-unfolding signed
-positive-signed x h = ltb→lt _ _ (h .lt)
 
 -- ---- back: a fraction, or 0 where it is negative
 
@@ -145,16 +137,3 @@ minus-num x y = record { is = omega (arith, (is-minus (is-pos (x .num * y .den))
 -- where nothing is set to 0, the two differences are one
 pub signed-⊖ : {x y : Ratio} → y ≼ x → signed (x ⊖ y) ≡ signed x -ᶠ signed y
 signed-⊖ {x} {y} h = ap signed (sym (nonnegative-minus x y)) ∙ signed-natural (signed x -ᶠ signed y) (is-≤ (is-pos 0) (minus-num x y) (omega (arith, h .le)))
-
--- a difference is at or below z where x is at or below z plus y; and likewise above
-pub minus-≤ : (x y z : Ratio) → x ≼ z ⊕ y → signed x -ᶠ signed y ≤ᶠ signed z
-unfolding signed _-ᶠ_ _⊕_
-minus-≤ x y z h = record {
-  le = is-≤ (is-times (minus-num x y) (is-pos (z .den))) (is-pos (z .num * (x .den * y .den))) (omega (arith, h .le));
-}
-
-pub ≤-minus : (x y z : Ratio) → z ⊕ y ≼ x → signed z ≤ᶠ signed x -ᶠ signed y
-unfolding signed _-ᶠ_ _⊕_
-≤-minus x y z h = record {
-  le = is-≤ (is-pos (z .num * (x .den * y .den))) (is-times (minus-num x y) (is-pos (z .den))) (omega (arith, h .le));
-}

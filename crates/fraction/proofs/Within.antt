@@ -7,9 +7,9 @@ use native.Mathlib.Nat.{one-le-pow, pow-suc, pow-zero, pow-succ', pow-le-pow-lef
 use native.Mathlib.Omega.{arith, patom, plit}
 use lib.Pow.{pow-add}
 use lib.Dec.{lit≤, lit<}
-use Rattle.fraction.proofs.Ratio.{Ratio, _≼_, _≈_, ofℕ, _⊕_, _⊗_, ≼-refl, ≼-trans, ≈-le, ≈-ge, ⊕-mono, ⊗-mono, ⊗-comm, ⊗-assoc, ⊗-one, ⊗-cancel}
+use Rattle.fraction.proofs.Ratio.{Ratio, _≼_, _≈_, ofℕ, _⊕_, _⊗_, ≼-refl, ≼-trans, ≈-le, ≈-ge, ⊕-mono, ⊗-mono, ⊗-assoc, ⊗-one-right, ⊗-cancel, ≼-⊗}
 use Rattle.fraction.proofs.Certificate.{_+'_, _*'_, prove, same-value, hyp}
-use Rattle.fraction.proofs.Inverse.{inv, inv-is}
+use Rattle.fraction.proofs.Inverse.{inv, inv-is, inv-≼}
 
 pub record Within (F x̂ x : Ratio) : Type 0 where
   pub low : x ≼ x̂
@@ -33,15 +33,12 @@ unfolding grow ofℕ
 one-≼-grow L n = record { le = omega (arith, pow-le-pow-left {n = suc L} {m = suc L + 1} (omega arith) n) }
 
 pub grow-≤ : (L m n : ℕ) → m ≤ n → grow L m ≼ grow L n
-grow-≤ L m n h = let e : m + (n - m) ≡ n = omega arith in ≼-trans more (rw e at (≈-ge (grow-+ L m (n - m))))
-  where
-    more : grow L m ≼ grow L m ⊗ grow L (n - m)
-    more = ≼-trans (≈-ge (⊗-one _)) (≼-trans (≈-le (⊗-comm _ _)) (⊗-mono (≼-refl (grow L m)) (one-≼-grow L (n - m))))
+grow-≤ L m n h = let e : m + (n - m) ≡ n = omega arith in ≼-trans (≼-⊗ (grow L m) (one-≼-grow L (n - m))) (rw e at (≈-ge (grow-+ L m (n - m))))
 
 -- ---- errors through the operations
 
 pub within-refl : (x : Ratio) → Within (ofℕ 1) x x
-within-refl x = record { low = ≼-refl x; high = ≼-trans (≈-ge (⊗-one x)) (≈-le (⊗-comm _ _)) }
+within-refl x = record { low = ≼-refl x; high = ≈-ge (⊗-one-right x) }
 
 -- a larger factor
 pub within-≼ : {F G x̂ x : Ratio} → F ≼ G → Within F x̂ x → Within G x̂ x
@@ -68,9 +65,7 @@ within-⊕ {F} {x = x} {y = y} p q = record { low = ⊕-mono (p .low) (q .low); 
 -- a divisor that errs downward makes a quotient err upward: by the same factor
 pub within-inv : {G ŷ y : Ratio} → 0 < ŷ .num → 0 < y .num → Within G y ŷ → Within G (inv ŷ) (inv y)
 within-inv {G} {ŷ} {y} h k p = record {
-  low = ⊗-cancel y k (prove (ŷ ∷ y ∷ inv ŷ ∷ inv y ∷ [])
-      (hyp (plit 1) (patom 1 *' patom 3) (plit 1) ∷ hyp (plit 1) (plit 1) (patom 0 *' patom 2) ∷ hyp (patom 2) (patom 0) (patom 1) ∷ [])
-      (patom 1 *' patom 3) (patom 1 *' patom 2) tt (≈-le (inv-is y k)) (≈-ge (inv-is ŷ h)) (p .low));
+  low = inv-≼ (p .low) h;
   high = ⊗-cancel y k (prove (ŷ ∷ y ∷ inv ŷ ∷ inv y ∷ G ∷ [])
       (hyp (patom 2) (patom 1) (patom 0 *' patom 4) ∷ hyp (patom 4) (patom 0 *' patom 2) (plit 1) ∷ hyp (patom 4) (plit 1) (patom 1 *' patom 3) ∷ [])
       (patom 1 *' patom 2) (patom 1 *' (patom 3 *' patom 4)) tt (p .high) (≈-le (inv-is ŷ h)) (≈-ge (inv-is y k)));
@@ -85,13 +80,8 @@ part : (x : Ratio) (L : ℕ) → ofℕ (suc L + 1) ⊗ x ≼ ofℕ (suc L) ⊗ (
 unfolding ofℕ _⊗_ grow
 part x L = record { le = rw (pow-one (suc L + 1), pow-one (suc L)) (omega arith) }
 
--- by itself
 pub within-round : {x r : Ratio} (L : ℕ) → x ≼ r → ofℕ (suc L) ⊗ r ≼ ofℕ (suc L + 1) ⊗ x → Within (grow L 1) r x
 within-round {x} L l h = record { low = l; high = ⊗-cancel (ofℕ (suc L)) (unfold ofℕ in zero-lt-suc L) (≼-trans h (part x L)) }
-
--- after n others
-pub within-step : {x̂ x r : Ratio} (L n : ℕ) → x̂ ≼ r → ofℕ (suc L) ⊗ r ≼ ofℕ (suc L + 1) ⊗ x̂ → Within (grow L n) x̂ x → Within (grow L (n + 1)) r x
-within-step L n l h p = within-≼ (≈-ge (grow-+ L n 1)) (within-trans (within-round L l h) p)
 
 -- ---- how much n roundings cost
 

@@ -7,12 +7,14 @@ use mathlib.Core.List.{_∷_}
 use native.Mathlib.Omega.{arith}
 use native.Mathlib.Nat.{one-le-pow}
 use Rattle.figure.specs.Operations.{times-down, of-whole}
+use Rattle.figure.proofs.Positive.{Above, times-down-above, of-whole-above}
 use Rattle.model.specs.Model.{Manner, slow, fast, Transition, Net, Model, exits, has-fast}
 use Rattle.model.proofs.Valid.{Valid}
 use Rattle.tree.specs.Paths.{Path, class1, class3, class-of, class, counts-1, class1-count}
 use Rattle.tree.specs.States.{mission-time, time-squared, mean-down}
 use Rattle.tree.proofs.Steps.{class1-count-more}
-use Rattle.tree.proofs.Positive.{Above, times-down-above, of-whole-above, quantity-above, mean-down-above}
+use Rattle.tree.proofs.Quantities.{quantity-above}
+use Rattle.tree.proofs.Positive.{mean-down-above}
 
 -- ---- k and k + 1
 

@@ -1,6 +1,7 @@
 pub mod Marked
 pub mod ModelA
 pub mod Least
+pub mod Quantities
 pub mod Positive
 pub mod Lists
 pub mod Outcomes

@@ -13,20 +13,23 @@ use Rattle.figure.specs.declared.Figure.{Figure}
 use Rattle.figure.specs.Rounding.{none, is-zero, up, down}
 use Rattle.figure.specs.Operations.{times-up, times-down, plus-up, minus-down, divided-up, times-ten, of-whole, total-up, total-down}
 use Rattle.figure.specs.Operands.{Sized, Operand}
+use Rattle.figure.proofs.Positive.{Above, times-down-above, of-whole-above}
 use Rattle.figure.proofs.Reach.{reach-wide}
-use Rattle.figure.proofs.Sized.{sized-≤, times-up-sized, times-down-sized, plus-up-sized, plus-down-sized, minus-down-sized, divided-up-sized, divided-down-sized, times-ten-sized, of-whole-sized, of-quantity-sized}
+use Rattle.figure.proofs.Sized.{sized-≤, times-up-sized, times-down-sized, plus-up-sized, plus-down-sized, minus-down-sized}
+use Rattle.figure.proofs.Sized.{divided-up-sized, divided-down-sized, times-ten-sized, of-whole-sized, of-quantity-sized}
 use Rattle.figure.proofs.Gathered.{Gathered, gathered-none, gathered-one, total-up-gathered, total-down-gathered, gathered-sized}
 use Rattle.model.specs.declared.Quantity.{Quantity}
-use Rattle.model.specs.Model.{Manner, slow, fast, Transition, Net, Model, exits, has-fast}
+use Rattle.model.specs.Model.{Manner, slow, fast, Transition, Net, Model, exits}
 use Rattle.model.proofs.Valid.{Each, InRange, ValidManner, Valid}
 use Rattle.tree.specs.Paths.{Path, Class, class1, class2, class3, class, counts-1, class1-count}
 use Rattle.tree.specs.States.{figure-of, mission-time, time-squared, second-moment, sum-over, add-rate, add-mean-up, add-mean-down, add-moment, rate-sum, mean-up, mean-down, moment-sum}
 use Rattle.tree.specs.Upper.{share, upper-step, upper}
-use Rattle.tree.specs.Grains.{class2-goal, class3-goal, grains, grain-sum}
+use Rattle.tree.specs.Grains.{grains, grain-sum}
 use Rattle.tree.specs.Lower.{class2-loss, class3-loss, class2-factor, class3-factor, lower-step, lower-product, add-rates, path-rate-sum, remaining-time, last-factor, lower-with, lower}
 use Rattle.tree.proofs.Least.{GrainsOf, grains-of-class}
-use Rattle.tree.proofs.Positive.{Above, times-down-above, of-whole-above, ValidSteps, exits-valid}
-use Rattle.tree.proofs.Divisors.{class1-count-low, time-above, time-squared-above, mean-time-above}
+use Rattle.tree.proofs.Quantities.{coefficient-short}
+use Rattle.tree.proofs.Positive.{ValidSteps, exits-valid}
+use Rattle.tree.proofs.Divisors.{class1-count-low, time-above, time-squared-above}
 use Rattle.tree.proofs.RemainingTime.{remaining-time-down, remaining-time-up}
 
 -- ---- quantities
@@ -36,8 +39,7 @@ none-sized n = record { is-figure = is-zero refl refl; near = omega arith }
 
 -- a quantity whose scale is at most `most`
 pub quantity-sized : {least most : ℕ} {q : Quantity} → InRange least most q → Sized 9 (most + 20) (figure-of q)
-quantity-sized {q = q} h =
-    sized-≤ (omega (arith, h .scale)) (of-quantity-sized (q .coefficient) (q .scale) (le-trans {m = 1000000} (omega (arith, h .high)) (lit≤ tt)))
+quantity-sized {q = q} h = sized-≤ (omega (arith, h .scale)) (of-quantity-sized (q .coefficient) (q .scale) (coefficient-short h))
 
 pub share-sized : (x : Manner) → ValidManner x → Sized 9 40 (share x)
 unfolding ValidManner
@@ -203,15 +205,6 @@ factor-sized p q r = sized-≤ (lit≤ tt) (times-down-sized p (minus-down-sized
 -- ---- the same of a valid model
 
 module _ {m : Model} (valid : Valid m) where
-  pub class2-goal-sized : {x d : Quantity} → InRange 1 20 x → InRange 0 20 d → Sized 9 300 (class2-goal (m .net) x d)
-  unfolding class2-goal
-  class2-goal-sized h k = goal2-sized (second-moment-sized h k) (time-squared-sized valid) (time-squared-above valid)
-
-  pub class3-goal-sized : (s : ℕ) → has-fast (exits (m .net) s) ≡ true → Sized 9 1100 (class3-goal (m .net) s)
-  unfolding class3-goal
-  class3-goal-sized s h =
-      goal3-sized (moment-sum-sized valid s) (mean-down-sized valid s) (mission-time-sized valid) (mean-time-above valid s h)
-
   pub class2-loss-sized : (s : ℕ) {x d : Quantity} {n : ℕ} → InRange 1 20 x → InRange 0 20 d → 1 ≤ n → n ≤ 1000000
       → Sized 9 600 (class2-loss (m .net) s x d n)
   unfolding class2-loss
