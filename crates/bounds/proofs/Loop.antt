@@ -48,9 +48,9 @@ pub record AtExit (ws : List ℕ) (task : Task) (tip : Tip) (left : ℕ) (e l : 
       (rest (net-of ws) (limits-of ws) (left - 1) (carried-of (net-of ws) l tip e) i) (totals-of sums)
 
 pub exit-same : {ws : List ℕ} {task : Task} {tip : Tip} {left : ℕ} {e l : List ℕ} {a : Totals} {i : ℕ} {entered taken f k : List ℕ} {sums r : Totals}
-    {cache : Cache} → f ≡ entered → k ≡ taken → r ≡ sums → AtExit ws task tip left e l a i entered taken sums cache
-    → AtExit ws task tip left e l a i f k r cache
-exit-same p q r h = rw (p, q, r) h
+    {cache h : Cache} → f ≡ entered → k ≡ taken → r ≡ sums → h ≡ cache → AtExit ws task tip left e l a i entered taken sums cache
+    → AtExit ws task tip left e l a i f k r h
+exit-same p q r s h = rw (p, q, r, s) h
 
 module _ {ws slots counts places shares grain-counts factors rates means : List ℕ} {task : Task} {tip : Tip} {left : ℕ} {e l : List ℕ} {a : Totals}
     (ready : Ready ws slots counts places shares grain-counts factors rates means task tip left e l a) where

@@ -9,6 +9,7 @@ use lib.Dec.{ltb, eqb, lit≤}
 use lib.ListN.{length, getD, set, length-set}
 use lib.Seq.{set-set, set-getD}
 use borrow.Author.Tests.{lt-ltb, le-ltb}
+use Rattle.figure.specs.declared.Figure.{Figure}
 use Rattle.figure.specs.Rounding.{IsFigure}
 use Rattle.figure.specs.Operands.{Sized}
 use Rattle.figure.proofs.Sized.{sized-≤}
@@ -18,10 +19,10 @@ use Rattle.model.proofs.Valid.{Each, ValidTransition, Valid}
 use Rattle.model.proofs.Members.{is-empty-length}
 use Rattle.model.proofs.Slots.{slot-below, slot-exit, slot-leaves}
 use Rattle.tree.specs.Lower.{lower}
-use Rattle.tree.specs.Tree.{Outcome, is-continued, Visit}
+use Rattle.tree.specs.Tree.{Outcome, is-death, is-continued, Visit}
 use Rattle.tree.proofs.Outcomes.{is-continued-true}
 use Rattle.tree.proofs.Ranges.{any-upper-sized, prune-sized}
-use Rattle.tree.proofs.Tally.{noted, with-visit}
+use Rattle.tree.proofs.Tally.{with-step, with-cut, with-death, noted, with-visit}
 use Rattle.tree.proofs.Carried.{Carried, Carries, carry, carry-upper, carry-carries, outcome-by, outcome-next, GoesOnBy, continued-by}
 use Rattle.tree.proofs.Going.{Walked, exit-totals, exit-within, exit-ended, exit-back, exit-below-over}
 use Rattle.bounds.specs.declared.visit.Outcome.{Outcome as Coded}
@@ -35,6 +36,7 @@ use Rattle.bounds.specs.Deaths.{path-of, LastStep}
 use Rattle.bounds.specs.Walk.{outcome-of, tip-after, judged, totals-of, Counted, Cached, ExitOf, carried-of, Ready, Ends}
 use Rattle.bounds.proofs.Classes.{step-valid}
 use Rattle.bounds.proofs.ArrayPaths.{below-same, path-longer, known-longer}
+use Rattle.bounds.proofs.Noting.{note-death, note-step, note-cut}
 use Rattle.bounds.proofs.Loop.{limits-of, visits-beyond, AtExit, state-small, room, path-short, steps-valid, is-exit, ends-by}
 
 module _ (ws slots counts places shares grain-counts factors rates means : List ℕ) (task : Task) (tip : Tip) (left : ℕ) (e l : List ℕ) (a : Totals)
@@ -147,6 +149,42 @@ module _ {ws slots counts places shares grain-counts factors rates means : List 
     omega (arith, w .kept .going .within, w .some, w .ready .task-is .budget-high),
     sized-≤ (lit≤ tt) upper-sized,
   )
+
+-- ---- the path through it is noted
+
+module _ {ws slots counts places shares grain-counts factors rates means : List ℕ} {task : Task} {tip : Tip} {left : ℕ} {e l : List ℕ} {a : Totals}
+    {i : ℕ} {entered taken : List ℕ} {sums : Totals} {cache : Cache} {x : Exit}
+    (w : Turn ws slots counts places shares grain-counts factors rates means task tip left e l a i entered taken sums cache x)
+    (o : Coded)
+    (is : outcome-of o
+    ≡ judged (getD counts (x .tip .state) 0) (getD entered (x .tip .state) 0) (left - 1) (x .tip .upper) (task .level) (task .entries))
+    {after : Totals} (counted : Counted after) where
+  noted-as : {j : ℕ} {held : Cache} → j ≡ x .index
+      → totals-of after
+      ≡ noted (totals-of sums) (outcome-of o) (lower (net-of ws) (transition (net-of ws) j ∷ path-of (net-of ws) l (tip .len))) (x .tip .upper)
+      → Cached (net-of ws) (path-of (net-of ws) l (tip .len)) (tip .state) held
+      → Visited ws slots counts places shares grain-counts factors rates means task tip left e l a i entered taken sums cache x o j after held
+  noted-as at more cached =
+      record { turn = w; index-is = at; judged-is = is; totals-are = more; cached = cached; counted = counted }
+
+  -- as a death, of the lower f
+  pub death-noted : {j : ℕ} → j ≡ x .index → is-death (outcome-of o) ≡ true → {f : Figure}
+      → f ≡ lower (net-of ws) (transition (net-of ws) j ∷ path-of (net-of ws) l (tip .len))
+      → totals-of after ≡ with-death (totals-of sums) f (x .tip .upper)
+      → {held : Cache} → Cached (net-of ws) (path-of (net-of ws) l (tip .len)) (tip .state) held
+      → Visited ws slots counts places shares grain-counts factors rates means task tip left e l a i entered taken sums cache x o j after held
+  death-noted at on low more cached = noted-as at (note-death _ _ _ _ more low on) cached
+
+  -- as a step that ends no path
+  pub step-noted : is-continued (outcome-of o) ≡ true → totals-of after ≡ with-step (totals-of sums)
+      → Visited ws slots counts places shares grain-counts factors rates means task tip left e l a i entered taken sums cache x o (x .index) after cache
+  step-noted on more = noted-as refl (note-step _ _ _ _ more on) (w .kept .cached)
+
+  -- as a cut
+  pub cut-noted : is-death (outcome-of o) ≡ false → is-continued (outcome-of o) ≡ false
+      → totals-of after ≡ with-cut (totals-of sums) (x .tip .upper)
+      → Visited ws slots counts places shares grain-counts factors rates means task tip left e l a i entered taken sums cache x o (x .index) after cache
+  cut-noted off ended more = noted-as refl (note-cut _ _ _ _ more off ended) (w .kept .cached)
 
 -- ---- the visit
 

@@ -20,7 +20,6 @@ use crate::lower::Shared;
 use crate::lower::lower_of;
 use crate::lower::shared_by;
 use crate::pack::unpack;
-use crate::walk::Tip;
 use crate::walk::Totals;
 use figure::Figure;
 
@@ -42,12 +41,6 @@ pub struct Cache {
 // The lower of a death path, and the cache after it.
 pub struct Died {
     pub lower: Figure,
-    pub cache: Cache,
-}
-
-// The totals and the cache after a visit.
-pub struct Noted {
-    pub totals: Totals,
     pub cache: Cache,
 }
 
@@ -78,7 +71,7 @@ pub(crate) fn judge(
     Outcome::Continued
 }
 
-fn is_death(o: Outcome) -> bool
+pub(crate) fn is_death(o: Outcome) -> bool
     ensures { λ r. ⌜ r ≡ tree.is-death (walks.outcome-of o) ⌝ }
 {
     match o {
@@ -103,7 +96,7 @@ pub(crate) fn is_continued(o: Outcome) -> bool
 }
 
 // The totals with one death path more.
-fn with_death(t: Totals, lower: Figure, upper: Figure) -> Totals
+pub(crate) fn with_death(t: Totals, lower: Figure, upper: Figure) -> Totals
     requires { ⌜ Counted t × (t .steps < 1000000) × Sized 9 35000 lower × Sized 9 35000 upper ⌝ }
     ensures { λ r. ⌜ totals-of r ≡ running.with-death (totals-of t) lower upper ⌝ }
     ensures { λ r. ⌜ Counted r ⌝ }
@@ -124,7 +117,7 @@ fn with_death(t: Totals, lower: Figure, upper: Figure) -> Totals
 }
 
 // The totals with one cut path more.
-fn with_cut(t: Totals, upper: Figure) -> Totals
+pub(crate) fn with_cut(t: Totals, upper: Figure) -> Totals
     requires { ⌜ Counted t × (t .steps < 1000000) × Sized 9 35000 upper ⌝ }
     ensures { λ r. ⌜ totals-of r ≡ running.with-cut (totals-of t) upper ⌝ }
     ensures { λ r. ⌜ Counted r ⌝ }
@@ -204,7 +197,7 @@ fn shared_for(
 }
 
 // The lower of a death path with that last step, and the cache after it: what a slow exit's deaths share is worked out for the first of them and kept.
-fn death(
+pub(crate) fn death(
     words: &[u32],
     places: &[u16; 4000],
     shares: &[u64; 4000],
@@ -253,73 +246,6 @@ fn death(
         shared,
     };
     Died { lower, cache: kept }
-}
-
-// One visit noted: of the path at `tip` with the transition j of class `class` as its last step, whose upper is `upper`; `path` has the tip's path.
-pub(crate) fn note(
-    words: &[u32],
-    places: &[u16; 4000],
-    shares: &[u64; 4000],
-    grains: &[u32; 4000],
-    factors: &[u64; 4000],
-    rates: &[u64; 1001],
-    means: &[u64; 1001],
-    time: Figure,
-    tip: Tip,
-    path: [u16; 24],
-    class: u8,
-    j: usize,
-    upper: Figure,
-    o: Outcome,
-    totals: Totals,
-    cache: Cache,
-) -> Noted
-    requires { ⌜ Tabled (now words) (now places) (now shares) (now grains) (now factors) (now rates) (now means) ⌝ }
-    requires { ⌜ LastStep (net-of (now words)) path (tip .len) (tip .ones) class (tip .state) j × (time ≡ mission-time (net-of (now words))) ⌝ }
-    requires { ⌜ Cached (net-of (now words)) (path-of (net-of (now words)) path (tip .len)) (tip .state) cache ⌝ }
-    requires { ⌜ Counted totals × (totals .steps < 1000000) × Sized 9 35000 upper ⌝ }
-    ensures { λ r. ⌜ totals-of (r .totals) ≡ running.noted (totals-of totals) (walks.outcome-of o) (bound.lower (net-of (now (words .entry))) (transition (net-of (now (words .entry))) j ∷ path-of (net-of (now (words .entry))) path (tip .len))) upper ⌝ }
-    ensures { λ r. ⌜ Cached (net-of (now (words .entry))) (path-of (net-of (now (words .entry))) path (tip .len)) (tip .state) (r .cache) ⌝ }
-    ensures { λ r. ⌜ Counted (r .totals) ⌝ }
-{
-    if is_death(o) {
-        let died = death(
-            words,
-            places,
-            shares,
-            grains,
-            factors,
-            rates,
-            means,
-            time,
-            path,
-            tip.len,
-            tip.ones,
-            class,
-            tip.state,
-            j,
-            cache,
-        );
-        let lower = died.lower;
-        let kept = died.cache;
-        let more = with_death(totals, lower, upper);
-        return Noted {
-            totals: more,
-            cache: kept,
-        };
-    }
-    if is_continued(o) {
-        let more = with_step(totals);
-        return Noted {
-            totals: more,
-            cache,
-        };
-    }
-    let more = with_cut(totals, upper);
-    Noted {
-        totals: more,
-        cache,
-    }
 }
 
 // A cache of which nothing is known.

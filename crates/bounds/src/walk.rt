@@ -11,10 +11,13 @@ use crate::pack::unpack;
 use crate::states::small;
 use crate::states::wide;
 use crate::states::word_of;
+use crate::visit::death;
 use crate::visit::is_continued;
+use crate::visit::is_death;
 use crate::visit::judge;
 use crate::visit::no_cache;
-use crate::visit::note;
+use crate::visit::with_cut;
+use crate::visit::with_death;
 use crate::visit::with_step;
 use figure::Figure;
 use model::words::is_fast;
@@ -165,27 +168,29 @@ pub(crate) fn walk(
         let to = next.state;
         let before = entered[to];
         let o = judge(counts[to], before, left - 1, upper, level, task.entries);
-        let noted = note(
-            words,
-            places,
-            shares,
-            grains,
-            factors,
-            rates,
-            means,
-            time,
-            tip,
-            path,
-            exit.class,
-            wide(x),
-            upper,
-            o,
-            sums,
-            cache,
-        );
-        sums = noted.totals;
-        cache = noted.cache;
-        if is_continued(o) {
+        if is_death(o) {
+            let died = death(
+                words,
+                places,
+                shares,
+                grains,
+                factors,
+                rates,
+                means,
+                time,
+                path,
+                len,
+                tip.ones,
+                exit.class,
+                s,
+                wide(x),
+                cache,
+            );
+            let lower = died.lower;
+            cache = died.cache;
+            sums = with_death(sums, lower, upper);
+        } else if is_continued(o) {
+            sums = with_step(sums);
             entered[to] = before + 1;
             taken[len] = x;
             sums = walk(
@@ -209,6 +214,8 @@ pub(crate) fn walk(
             if task.budget < sums.steps {
                 return sums;
             }
+        } else {
+            sums = with_cut(sums, upper);
         }
         i += 1;
     }

@@ -1,13 +1,19 @@
 -- `walk` meets its contract. The steps that the path may still take fall at each call; the loop keeps, at each exit, that the totals so far with
 -- the visits still to make come to the totals of all. Assumes nothing.
 use Prim.Native.Nat.{ℕ, _<_, _≤_, _-_}
-use mathlib.Core.Path.{_≡_, sym, _∙_}
+use mathlib.Core.Path.{_≡_, sym, ap, _∙_}
+use mathlib.Core.Bool.{true}
 use mathlib.Core.Logic.{⊎-elim}
 use native.Mathlib.Omega.{arith}
 use lib.ListN.{length, getD}
 use borrow.Author.Needs.{needs}
+use Rattle.tree.specs.Tree.{is-continued}
+use Rattle.tree.proofs.Outcomes.{is-death-true}
+use Rattle.bounds.specs.Walk.{outcome-of}
 use Rattle.bounds.proofs.Loop.{AtExit, exit-same, state-small, room, exit-ready, loop-start, steps-few, loop-end, loop-over}
-use Rattle.bounds.proofs.Turns.{Turn, Visited, there-small, judge-figures, last-step, note-figures, visit-ended, before-fits, ready-there, visit-over, visit-back}
+use Rattle.bounds.proofs.Noting.{last-lower}
+use Rattle.bounds.proofs.Turns.{Turn, Visited, there-small, judge-figures, last-step, note-figures}
+use Rattle.bounds.proofs.Turns.{death-noted, step-noted, cut-noted, visit-ended, before-fits, ready-there, visit-over, visit-back}
 use borrow.Fn.Kinds.{In}
 use borrow.Fn.PlainCycle.{Measures, is, falls, and}
 use Rattle.bounds.proofs.walk.walk.Reads as walk
@@ -16,10 +22,13 @@ use Rattle.bounds.proofs.walk.+walk.Lts-walk as walk-lts
 use Rattle.bounds.proofs.states.small.Reads as small-reads
 use Rattle.bounds.proofs.states.wide.Reads as wide-reads
 use Rattle.bounds.proofs.walk.exit_at.Reads as exit-at-reads
+use Rattle.bounds.proofs.visit.death.Reads as death-reads
 use Rattle.bounds.proofs.visit.is_continued.Reads as is-continued-reads
+use Rattle.bounds.proofs.visit.is_death.Reads as is-death-reads
 use Rattle.bounds.proofs.visit.judge.Reads as judge-reads
 use Rattle.bounds.proofs.visit.no_cache.Reads as no-cache-reads
-use Rattle.bounds.proofs.visit.note.Reads as note-reads
+use Rattle.bounds.proofs.visit.with_cut.Reads as with-cut-reads
+use Rattle.bounds.proofs.visit.with_death.Reads as with-death-reads
 use Rattle.bounds.proofs.visit.with_step.Reads as with-step-reads
 use Rattle.bounds.proofs.walk.+walk.{statement}
 use Rattle.bounds.proofs.walk.+walk.Tie.{close}
@@ -34,7 +43,32 @@ abbrev walk-below : ℕ → In 9 walk-kinds.ps
 walk-below t = and 9 walk-kinds.ps (falls 9 walk-kinds.ps _<_ μ-walk t) walk.Pre
 
 abbrev claims : ℕ → walk-lts.Claims
-claims t = (no-cache-reads.Asked, no-cache-reads.Learnt, small-reads.Asked, small-reads.Learnt, with-step-reads.Asked, with-step-reads.Learnt, exit-at-reads.Asked, exit-at-reads.Learnt, judge-reads.Asked, judge-reads.Learnt, wide-reads.Asked, wide-reads.Learnt, note-reads.Asked, note-reads.Learnt, is-continued-reads.Asked, is-continued-reads.Learnt, walk-below t, walk.Post)
+claims t = (
+  no-cache-reads.Asked,
+  no-cache-reads.Learnt,
+  small-reads.Asked,
+  small-reads.Learnt,
+  with-step-reads.Asked,
+  with-step-reads.Learnt,
+  exit-at-reads.Asked,
+  exit-at-reads.Learnt,
+  judge-reads.Asked,
+  judge-reads.Learnt,
+  is-death-reads.Asked,
+  is-death-reads.Learnt,
+  wide-reads.Asked,
+  wide-reads.Learnt,
+  death-reads.Asked,
+  death-reads.Learnt,
+  with-death-reads.Asked,
+  with-death-reads.Learnt,
+  is-continued-reads.Asked,
+  is-continued-reads.Learnt,
+  walk-below t,
+  walk.Post,
+  with-cut-reads.Asked,
+  with-cut-reads.Learnt,
+)
 
 abbrev walk-Inv-loop : walk-lts.InvT-loop
 walk-Inv-loop words slots counts places shares grains factors rates means task tip left path entered₀ taken₀ sums₀ cache₀ time level s len count i₀ entered taken sums cache i =
@@ -46,16 +80,28 @@ walk-μ-loop words slots counts places shares grains factors rates means task ti
 
 -- ---- the places of a turn: where the exit was read, and where the visit was noted
 
-abbrev exit-loop : (t : ℕ) (c : walk-lts.After-exit-at (claims t) (walk-at t) walk.Post walk-Inv-loop walk-μ-loop) → walk-lts.At-loop (claims t) (walk-at t) walk.Post walk-Inv-loop walk-μ-loop
+abbrev AtLoop : ℕ → Type 0
+AtLoop t = walk-lts.At-loop (claims t) (walk-at t) walk.Post walk-Inv-loop walk-μ-loop
+
+abbrev ExitRead : ℕ → Type 0
+ExitRead t = walk-lts.After-exit-at (claims t) (walk-at t) walk.Post walk-Inv-loop walk-μ-loop
+
+abbrev Tested : ℕ → Type 0
+Tested t = walk-lts.After-is-death (claims t) (walk-at t) walk.Post walk-Inv-loop walk-μ-loop
+
+abbrev StepNoted : ℕ → Type 0
+StepNoted t = walk-lts.After-with-step2 (claims t) (walk-at t) walk.Post walk-Inv-loop walk-μ-loop
+
+abbrev exit-loop : (t : ℕ) (c : ExitRead t) → AtLoop t
 exit-loop t c = c .before .before .before .before .before
 
-abbrev loop-begin : (t : ℕ) (c : walk-lts.At-loop (claims t) (walk-at t) walk.Post walk-Inv-loop walk-μ-loop) → walk-lts.Start (claims t) (walk-at t) walk.Post walk-Inv-loop walk-μ-loop
+abbrev loop-begin : (t : ℕ) (c : AtLoop t) → walk-lts.Start (claims t) (walk-at t) walk.Post walk-Inv-loop walk-μ-loop
 loop-begin t c = c .before .before .before .before .before .before .before
 
 more-at : (t : ℕ) (c : walk-lts.In-loop (claims t) (walk-at t) walk.Post walk-Inv-loop walk-μ-loop) → c .before .loop .i < getD ((loop-begin t (c .before)) .args .counts .now) ((loop-begin t (c .before)) .args .tip .state) 0
 more-at t c = omega (arith, c .before .before .small .ensures .0, c .loop-test .taken)
 
-abbrev TurnAt : (t : ℕ) (c : walk-lts.After-exit-at (claims t) (walk-at t) walk.Post walk-Inv-loop walk-μ-loop) → Type 0
+abbrev TurnAt : (t : ℕ) (c : ExitRead t) → Type 0
 TurnAt t c =
     let k = exit-loop t c in
     let s = (loop-begin t k) .args in
@@ -63,7 +109,7 @@ TurnAt t c =
     (s .task) (s .tip) (s .left) (s .entries) (s .path) (s .totals)
     (k .loop .i) (k .loop .entered) (k .loop .taken) (k .loop .sums) (k .loop .cache) (c .exit-at .result)
 
-turn : (t : ℕ) (c : walk-lts.After-exit-at (claims t) (walk-at t) walk.Post walk-Inv-loop walk-μ-loop) → TurnAt t c
+turn : (t : ℕ) (c : ExitRead t) → TurnAt t c
 turn t c =
     let k = exit-loop t c in
     record {
@@ -74,31 +120,31 @@ turn t c =
       exit = c .exit-at .ensures;
     }
 
-abbrev read-exit : (t : ℕ) (c : walk-lts.After-cache (claims t) (walk-at t) walk.Post walk-Inv-loop walk-μ-loop) → walk-lts.After-exit-at (claims t) (walk-at t) walk.Post walk-Inv-loop walk-μ-loop
-read-exit t c = c .before .before .before .before .before .before .before .before
+-- where the outcome was tested for a death first
+abbrev read-exit : (t : ℕ) (c : Tested t) → ExitRead t
+read-exit t c = c .before .before .before .before .before
 
-abbrev VisitedAt : (t : ℕ) (c : walk-lts.After-cache (claims t) (walk-at t) walk.Post walk-Inv-loop walk-μ-loop) → Type 0
+-- the path goes on, and its step was noted
+abbrev tested : (t : ℕ) (c : StepNoted t) → Tested t
+tested t c = c .before .before .before .before
+
+abbrev VisitedAt : (t : ℕ) (c : StepNoted t) → Type 0
 VisitedAt t c =
-    let e = read-exit t c in
+    let e = read-exit t (tested t c) in
     let k = exit-loop t e in
     let s = (loop-begin t k) .args in
-    let n = c .before .before in
     Visited (s .words .now) (s .slots .now) (s .counts .now) (s .places .now) (s .shares .now) (s .grains .now) (s .factors .now) (s .rates .now) (s .means .now)
     (s .task) (s .tip) (s .left) (s .entries) (s .path) (s .totals)
     (k .loop .i) (k .loop .entered) (k .loop .taken) (k .loop .sums) (k .loop .cache) (e .exit-at .result)
-    (n .before .before .judge .result) (n .before .wide .result) (n .note .result .totals) (n .note .result .cache)
+    ((tested t c) .before .judge .result) (e .exit-at .result .index) (c .with-step2 .result) (k .loop .cache)
 
-visited : (t : ℕ) (c : walk-lts.After-cache (claims t) (walk-at t) walk.Post walk-Inv-loop walk-μ-loop) → VisitedAt t c
+on : (t : ℕ) (c : StepNoted t) → is-continued (outcome-of ((tested t c) .before .judge .result)) ≡ true
+on t c = sym (c .before .before .is-continued .ensures) ∙ c .before .if3 .taken
+
+visited : (t : ℕ) (c : StepNoted t) → VisitedAt t c
 visited t c =
-    let n = c .before .before in
-    record {
-      turn = turn t (read-exit t c);
-      index-is = n .before .wide .ensures .0;
-      judged-is = n .before .before .judge .ensures;
-      totals-are = n .note .ensures .0;
-      cached = n .note .ensures .1 .0;
-      counted = n .note .ensures .1 .1;
-    }
+    let j = (tested t c) .before .judge in
+    step-noted (turn t (read-exit t (tested t c))) (j .result) (j .ensures) (c .with-step2 .ensures .1) (on t c) (c .with-step2 .ensures .0)
 
 walk-no-cache-requires : (t : ℕ) → walk-lts.Need-no-cache-requires (claims t) (walk-at t) walk.Post walk-Inv-loop walk-μ-loop
 walk-no-cache-requires t c κs = tt
@@ -144,64 +190,93 @@ walk-sub-judge t c = (turn t (c .before .before .before)) .ready .more
 walk-judge-requires : (t : ℕ) → walk-lts.Need-judge-requires (claims t) (walk-at t) walk.Post walk-Inv-loop walk-μ-loop
 walk-judge-requires t c κs = judge-figures (turn t (c .before .before .before))
 
+walk-is-death-requires : (t : ℕ) → walk-lts.Need-is-death-requires (claims t) (walk-at t) walk.Post walk-Inv-loop walk-μ-loop
+walk-is-death-requires t c κs = tt
+
 walk-wide-requires : (t : ℕ) → walk-lts.Need-wide-requires (claims t) (walk-at t) walk.Post walk-Inv-loop walk-μ-loop
 walk-wide-requires t c κs = tt
 
-walk-note-requires : (t : ℕ) → walk-lts.Need-note-requires (claims t) (walk-at t) walk.Post walk-Inv-loop walk-μ-loop
-walk-note-requires t c κs =
-    let w = turn t (c .before .before .before .before .before) in
-    (w .ready .tabled, ((last-step w (c .wide .ensures .0), w .ready .task-is .time-is), (w .kept .cached, note-figures w)))
+walk-death-requires : (t : ℕ) → walk-lts.Need-death-requires (claims t) (walk-at t) walk.Post walk-Inv-loop walk-μ-loop
+walk-death-requires t c κs =
+    let w = turn t (read-exit t (c .before .before)) in
+    (w .ready .tabled, ((last-step w (c .wide .ensures .0), w .ready .task-is .time-is), w .kept .cached))
+
+walk-with-death-requires : (t : ℕ) → walk-lts.Need-with-death-requires (claims t) (walk-at t) walk.Post walk-Inv-loop walk-μ-loop
+walk-with-death-requires t c κs =
+    let d = c .before .before in
+    let w = turn t (read-exit t (d .before .before .before)) in
+    let h = note-figures w in
+    (h .0, h .1, last-lower (w .ready .tabled .classed .valid) (last-step w (d .before .wide .ensures .0)) (d .death .ensures .0), h .2)
 
 walk-is-continued-requires : (t : ℕ) → walk-lts.Need-is-continued-requires (claims t) (walk-at t) walk.Post walk-Inv-loop walk-μ-loop
 walk-is-continued-requires t c κs = tt
 
 walk-add-entered : (t : ℕ) → walk-lts.Need-add-entered (claims t) (walk-at t) walk.Post walk-Inv-loop walk-μ-loop
-walk-add-entered t c = omega (arith, before-fits (visited t (c .before .before)) (sym (c .before .is-continued .ensures) ∙ c .if2 .taken))
+walk-add-entered t c = omega (arith, before-fits (visited t c) (on t c))
 
 walk-array-write-entered : (t : ℕ) → walk-lts.Need-array-write-entered (claims t) (walk-at t) walk.Post walk-Inv-loop walk-μ-loop
-walk-array-write-entered t c = there-small ((visited t (c .before .before)) .turn)
+walk-array-write-entered t c = there-small ((visited t c) .turn)
 
 walk-mul-taken : (t : ℕ) → walk-lts.Need-mul-taken (claims t) (walk-at t) walk.Post walk-Inv-loop walk-μ-loop
-walk-mul-taken t c = omega (arith, room ((visited t (c .before .before)) .turn .ready))
+walk-mul-taken t c = omega (arith, room ((visited t c) .turn .ready))
 
 walk-array-write-taken : (t : ℕ) → walk-lts.Need-array-write-taken (claims t) (walk-at t) walk.Post walk-Inv-loop walk-μ-loop
-walk-array-write-taken t c = omega (arith, room ((visited t (c .before .before)) .turn .ready), (visited t (c .before .before)) .turn .kept .size)
+walk-array-write-taken t c = omega (arith, room ((visited t c) .turn .ready), (visited t c) .turn .kept .size)
 
 walk-sub-walk : (t : ℕ) → walk-lts.Need-sub-walk (claims t) (walk-at t) walk.Post walk-Inv-loop walk-μ-loop
-walk-sub-walk t c = (visited t (c .before .before)) .turn .ready .more
+walk-sub-walk t c = (visited t c) .turn .ready .more
+
+walk-with-step-requires-2 : (t : ℕ) → walk-lts.Need-with-step-requires-2 (claims t) (walk-at t) walk.Post walk-Inv-loop walk-μ-loop
+walk-with-step-requires-2 t c κs =
+    let w = turn t (read-exit t (c .before .before .before)) in
+    (w .kept .counted, steps-few (w .ready) (w .kept))
 
 walk-walk-requires : (t : ℕ) → walk-lts.Need-walk-requires (claims t) (walk-at t) walk.Post walk-Inv-loop walk-μ-loop
 walk-walk-requires t c κs =
-    let v = visited t (c .before .before) in
-    let s = loop-begin t (exit-loop t (read-exit t (c .before .before))) in
-    (omega (arith, s .pre .0, v .turn .ready .more), ready-there v (sym (c .before .is-continued .ensures) ∙ c .if2 .taken))
+    let v = visited t c in
+    let s = loop-begin t (exit-loop t (read-exit t (tested t c))) in
+    (omega (arith, s .pre .0, v .turn .ready .more), ready-there v (on t c))
 
 walk-array-write-entered-2 : (t : ℕ) → walk-lts.Need-array-write-entered-2 (claims t) (walk-at t) walk.Post walk-Inv-loop walk-μ-loop
-walk-array-write-entered-2 t c = there-small ((visited t (c .before .before .before)) .turn)
+walk-array-write-entered-2 t c = there-small ((visited t (c .before)) .turn)
 
 walk-returns-2 : (t : ℕ) → walk-lts.Need-returns-2 (claims t) (walk-at t) walk.Post walk-Inv-loop walk-μ-loop
 walk-returns-2 t c =
     let w = c .before .before .before in
-    let g = w .before in
-    (visit-over (visited t (g .before .before)) (sym (g .before .is-continued .ensures) ∙ g .if2 .taken) (w .walk .ensures .0) (c .if3 .taken), w .walk .ensures .1)
+    (visit-over (visited t (w .before)) (on t (w .before)) (w .walk .ensures .0) (c .if4 .taken), w .walk .ensures .1)
+
+walk-with-cut-requires : (t : ℕ) → walk-lts.Need-with-cut-requires (claims t) (walk-at t) walk.Post walk-Inv-loop walk-μ-loop
+walk-with-cut-requires t c κs = note-figures (turn t (read-exit t (c .before .before .before)))
 
 walk-add-i : (t : ℕ) → walk-lts.Need-add-i (claims t) (walk-at t) walk.Post walk-Inv-loop walk-μ-loop
 walk-add-i t c =
-    let n = (read-exit t (c .before .before)) .before .before .before .before in
+    let n = (read-exit t (c .before)) .before .before .before .before in
     omega (arith, n .loop-test .taken, n .before .before .small .ensures .1)
 
 walk-loop-less : (t : ℕ) → walk-lts.Need-loop-less (claims t) (walk-at t) walk.Post walk-Inv-loop walk-μ-loop
-walk-loop-less t c = let n = (read-exit t (c .before .before)) .before .before .before .before in omega (arith, n .loop-test .taken)
+walk-loop-less t c = let n = (read-exit t (c .before)) .before .before .before .before in omega (arith, n .loop-test .taken)
 
 walk-loop-again : (t : ℕ) → walk-lts.Need-loop-again (claims t) (walk-at t) walk.Post walk-Inv-loop walk-μ-loop
 walk-loop-again t c =
-    let n = (read-exit t (c .before .before)) .before .before .before .before in
-    let v = visited t (c .before .before) in
-    let is = sym (c .before .is-continued .ensures) in (
-      omega (arith, n .loop-test .taken),
+    let e = read-exit t (c .before) in
+    let w = turn t e in
+    let o = c .before .before .judge .result in
+    let is = c .before .before .judge .ensures in
+    let dead = sym (c .before .is-death .ensures) in (
+      omega (arith, e .before .before .before .before .loop-test .taken),
       ⊎-elim
-          (λ w. exit-same (w .5) (w .6) (w .7) (visit-back v (is ∙ w .0 .taken) (w .1 .ensures .0) (w .1 .ensures .1) (w .4 .left)))
-          (λ w. exit-same (w .1) (w .2) (w .3) (visit-ended v (is ∙ w .0 .left)))
+          (λ d. let died = dead ∙ d .0 .taken in
+          exit-same (d .6) (d .7) (d .8) (d .9)
+          (visit-ended (death-noted w o is (d .5 .ensures .1) (d .1 .ensures .0) died (d .2 .ensures .0) (d .5 .ensures .0) (d .2 .ensures .1))
+          (ap is-continued (is-death-true (outcome-of o) died))))
+          (⊎-elim
+          (λ d. let g : StepNoted t = record {
+            before = record { before = record { before = record { before = c .before; if2 = d .0 }; is-continued = d .1 }; if3 = d .2 };
+            with-step2 = d .3;
+          } in
+          exit-same (d .8) (d .9) (d .10) (d .11) (visit-back (visited t g) (on t g) (d .4 .ensures .0) (d .4 .ensures .1) (d .7 .left)))
+          (λ d. let ended = sym (d .1 .ensures) ∙ d .2 .left in
+          exit-same (d .4) (d .5) (d .6) (d .7) (visit-ended (cut-noted w o is (d .3 .ensures .1) (dead ∙ d .0 .left) ended (d .3 .ensures .0)) ended)))
           (c .if2 .came),
     )
 
@@ -228,9 +303,12 @@ pub +walk-spec : {M : Type 1} → statement M
     (walk-element-copy-out-judge t)
     (walk-sub-judge t)
     (walk-judge-requires t)
+    (walk-is-death-requires t)
     (walk-wide-requires t)
-    (walk-note-requires t)
+    (walk-death-requires t)
+    (walk-with-death-requires t)
     (walk-is-continued-requires t)
+    (walk-with-step-requires-2 t)
     (walk-add-entered t)
     (walk-array-write-entered t)
     (walk-mul-taken t)
@@ -239,6 +317,7 @@ pub +walk-spec : {M : Type 1} → statement M
     (walk-walk-requires t)
     (walk-array-write-entered-2 t)
     (walk-returns-2 t)
+    (walk-with-cut-requires t)
     (walk-add-i t)
     (walk-loop-less t)
     (walk-loop-again t)
