@@ -29,7 +29,7 @@ pub record Assessed (before after : List ℕ) (budget : ℕ) (number : ℕ) (num
   pub accuracy : AccuracyRule before budget (answer before budget)
   pub words-unchanged : after ≡ before
 
--- What `bounds_text` promises: of the bytes that the lent buffer then holds, the first n are the answer's text.
+-- What `bounds_text` promises: of the bytes that the lent buffer then holds, the first n are the answer's text. What the others are is free.
 pub record Texted (before after : List ℕ) (budget : ℕ) (bytes : List ℕ) (n : ℕ) : Type 0 where
   pub within : n ≤ length bytes
   pub text-is : take n bytes ≡ answer-text (answer before budget)

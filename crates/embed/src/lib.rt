@@ -77,10 +77,11 @@ pub extern "C" fn bounds_text(words: &[u32], budget: u64, text: &mut [u8; 256]) 
 }
 
 // The words of some bytes, at the start of `words`, and how many there are: of more than 64,024 bytes those of the first 64,024, which are already
-// more words than a model may have.
+// more words than a model may have. The lent bytes are unchanged; what `words` holds behind its words is free.
 #[no_mangle]
 pub extern "C" fn bounds_words(bytes: &[u8], words: &mut [u32; 16006]) -> usize
     ensures { λ r. ⌜ Spelled (take 64024 (now (bytes .entry))) (now (words .exit)) r ⌝ }
+    ensures { λ _. ⌜ now (bytes .exit) ≡ now (bytes .entry) ⌝ }
 {
     words_of(bytes, words)
 }

@@ -5,6 +5,7 @@ use bounds::Answer;
 use bounds::Report;
 use bounds::unreliability;
 use model::Refusal;
+ghost use mathlib.Core.Path.{_≡_};
 ghost use Rattle.text.specs.Text.{answer-text};
 ghost use Rattle.text.specs.Bytes.{words-of};
 ghost use Rattle.text.specs.Written.{Holds};
@@ -48,9 +49,10 @@ pub fn answer_text(a: Answer) -> Text
     }
 }
 
-// The text of the answer to the words of these bytes, however many.
+// The text of the answer to the words of these bytes, however many. The lent bytes are unchanged.
 pub fn answered(bytes: &[u8], budget: u64) -> Text
     ensures { λ r. ⌜ Holds (answer-text (answer (words-of (now (bytes .entry))) budget)) r ⌝ }
+    ensures { λ _. ⌜ now (bytes .exit) ≡ now (bytes .entry) ⌝ }
 {
     let mut words = [0; 16006];
     let n = words_of(bytes, &mut words);

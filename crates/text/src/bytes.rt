@@ -38,9 +38,10 @@ fn fill(bytes: &[u8], words: &mut [u32; 16006]) -> usize
 }
 
 // Puts the words of the bytes at the start of `words`, and answers how many there are. Of more than 64,024 bytes it takes the first
-// 64,024: these are 16,006 words, which is already more than a model may have.
+// 64,024: these are 16,006 words, which is already more than a model may have. The lent bytes are unchanged; what `words` holds behind its words is free.
 pub fn words_of(bytes: &[u8], words: &mut [u32; 16006]) -> usize
     ensures { λ r. ⌜ Spelled (take 64024 (now (bytes .entry))) (now (words .exit)) r ⌝ }
+    ensures { λ _. ⌜ now (bytes .exit) ≡ now (bytes .entry) ⌝ }
 {
     *words = [0; 16006];
     if bytes.len() <= 64_024 {

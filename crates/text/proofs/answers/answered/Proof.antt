@@ -1,6 +1,6 @@
 -- `text::answers::answered` meets its contract: the answer to the words of the first 64,024 bytes is that to all of them. Assumes nothing.
 use Prim.Native.Nat.{ℕ}
-use mathlib.Core.Path.{_≡_, sym, ap, _∙_}
+use mathlib.Core.Path.{_≡_, refl, sym, ap, _∙_}
 use mathlib.Core.List.{List}
 use native.Mathlib.Omega.{arith}
 use borrow.Author.Needs.{needs}
@@ -20,7 +20,7 @@ array-share-prefix-words c = search needs
 
 slice-aggregate-unreliability : tie.Need-slice-aggregate-unreliability
 slice-aggregate-unreliability c =
-    let s = c .before .words-of .ensures in
+    let s = c .before .words-of .ensures .0 in
     sym (length-take-le (c .before .words-of .result) (c .before .words-of .last .1 .0) (omega (arith, s .whole, s .within)))
 
 unreliability-requires : tie.Need-unreliability-requires
@@ -36,9 +36,9 @@ returns c =
     let a = w .before .before .before .args in
     let e : answer-of (u .unreliability .result) ≡ answer (words-of (a .bytes .now)) (a .budget) =
     u .unreliability .ensures .answer-is
-    ∙ ap (λ (ws : List ℕ). answer ws (a .budget)) (w .words-of .ensures .words-are)
+    ∙ ap (λ (ws : List ℕ). answer ws (a .budget)) (w .words-of .ensures .0 .words-are)
     ∙ sym (answer-enough (a .bytes .now) (a .budget)) in
-    rw e at (c .answer-text .ensures)
+    (rw e at (c .answer-text .ensures), refl)
 
 pub answered-spec : {M : Type 1} → statement M
 answered-spec =

@@ -1,6 +1,6 @@
 -- `text::bytes::words_of` meets its contract. Assumes nothing.
 use Prim.Native.Nat.{ℕ}
-use mathlib.Core.Path.{sym}
+use mathlib.Core.Path.{refl, sym}
 use native.Mathlib.Nat.{le-of-eq}
 use native.Mathlib.Omega.{arith}
 use borrow.Author.Needs.{needs}
@@ -13,7 +13,7 @@ fill-requires : tie.Need-fill-requires
 fill-requires c κs = search needs
 
 returns : tie.Need-returns
-returns c = rw (take-all 64024 (c .before .before .before .before .before .args .bytes .now) (omega arith)) (c .fill .ensures)
+returns c = (rw (take-all 64024 (c .before .before .before .before .before .args .bytes .now) (omega arith)) (c .fill .ensures), refl)
 
 slice-aggregate-fill : tie.Need-slice-aggregate-fill
 slice-aggregate-fill c = sym (length-take-le 64024 (c .before .before .before .before .args .bytes .now) (omega arith))
