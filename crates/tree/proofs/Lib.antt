@@ -1,3 +1,4 @@
+pub mod Computing
 pub mod Marked
 pub mod ModelA
 pub mod Least

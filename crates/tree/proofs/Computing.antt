@@ -1,0 +1,33 @@
+-- All definitions that an answer is computed by, opened by one name: a proof by computing says `unfolding computing`. Assumes nothing.
+use mathlib.Core.List.{flatMap}
+use Rattle.fraction.specs.Fraction.{whole, ratio, inverse, ten, at-most, _+ᶠ_, _-ᶠ_, _*ᶠ_, _/ᶠ_}
+use Rattle.figure.specs.Rounding.{value, digits-from, digit-count, dividend, divisor, floor, ceiling, lowest-power, up-from, down-from, up, down}
+use Rattle.figure.specs.Operations.{times-up, times-down, plus-up, plus-down, minus-down, divided-up, divided-down, times-ten, of-whole, of-quantity}
+use Rattle.figure.specs.Operations.{at-or-below, total-up, total-down, to-nine-up, to-nine-down, sum-to-nine-up}
+use Rattle.model.specs.Model.{only, any, exits-in, has-fast, probability-sum}
+use Rattle.model.specs.Reading.{then, unless, next-transition, next, at-words-end, read-from, lowest-uneven, first-of, read}
+use Rattle.tree.specs.Paths.{last-state, entries, class, class1-count}
+use Rattle.tree.specs.States.{time-squared, second-moment, sum-over, rate-sum, mean-up, mean-down, moment-sum}
+use Rattle.tree.specs.Upper.{upper-step, upper}
+use Rattle.tree.specs.Grains.{halve, reaches, least, class2-goal, class3-goal, class2-grains, class3-grains, grains-by, grains, grain-sum}
+use Rattle.tree.specs.Lower.{exact, class2-loss, class3-loss, class2-factor, class3-factor}
+use Rattle.tree.specs.Lower.{lower-step, lower-product, path-rate-sum, remaining-time, last-factor, lower-with, lower}
+use Rattle.tree.specs.Tree.{outcome, visits, tree, paths}
+use Rattle.tree.specs.Report.{upper-total, lower-total, report-of, report-on, walked, answer}
+
+unfoldable pub computing : Type 0
+unfolding answer walked report-on report-of upper-total lower-total
+    read first-of lowest-uneven read-from at-words-end next next-transition unless then
+    only any exits-in has-fast probability-sum
+    whole ratio inverse ten at-most _+ᶠ_ _-ᶠ_ _*ᶠ_ _/ᶠ_
+    value digits-from digit-count dividend divisor floor ceiling lowest-power up-from down-from up down
+    times-up times-down plus-up plus-down minus-down divided-up divided-down times-ten of-whole of-quantity
+    at-or-below total-up total-down to-nine-up to-nine-down sum-to-nine-up
+    last-state entries class class1-count
+    time-squared second-moment sum-over rate-sum mean-up mean-down moment-sum
+    upper-step upper
+    halve reaches least class2-goal class3-goal class2-grains class3-grains grains-by grains grain-sum
+    exact class2-loss class3-loss class2-factor class3-factor
+    lower-step lower-product path-rate-sum remaining-time last-factor lower-with lower
+    outcome visits tree paths flatMap
+computing = Unit {0}
