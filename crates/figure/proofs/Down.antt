@@ -2,14 +2,15 @@
 -- fractions with natural numerators; `Rounding` has the statements over signed ones. Assumes nothing.
 use mathlib.Core.Path.{_≡_, refl}
 use mathlib.Core.List.{[], _∷_}
+use mathlib.Core.Logic.{⊎-elim}
 use mathlib.Core.Bool.{Bool, true, false, not}
-use Prim.Native.Nat.{ℕ, zero, suc, _+_, _*_, _-_, _^_, _≤_, _<_}
-use native.Mathlib.Nat.{le-trans, zero-lt-suc, lt-irrefl, not-le-of-lt, le-of-lt, lt-of-not-le}
+use Prim.Native.Nat.{ℕ, suc, _+_, _*_, _-_, _^_, _≤_, _<_}
+use native.Mathlib.Nat.{le-trans, lt-irrefl, not-le-of-lt, le-of-lt, lt-of-not-le}
 use native.Mathlib.Omega.{arith, patom, plit}
 use lib.Dec.{T, ltb, ltb→lt, nltb→le}
 use lib.IntN.{ℤ, sucℤ}
 use Rattle.fraction.specs.Fraction.{Fraction}
-use Rattle.fraction.proofs.Ratio.{Ratio, _≼_, ofℕ, _⊕_, _⊗_, ≼-refl, ≼-trans, ≈-le, ⊗-mono, ⊗-comm, ofℕ-≼, ofℕ-⊕, ⊗-zero, zero-≼}
+use Rattle.fraction.proofs.Ratio.{Ratio, _≼_, ofℕ, _⊕_, _⊗_, ≼-refl, ≼-trans, ≈-le, ⊗-mono, ⊗-comm, ofℕ-≼, ofℕ-⊕, ⊗-zero, zero-≼, zero-or-pos}
 use Rattle.fraction.proofs.Certificate.{_+'_, _*'_, prove, hyp}
 use Rattle.fraction.proofs.PowersOfTen.{ten-to}
 use Rattle.fraction.proofs.Signed.{signed}
@@ -18,7 +19,7 @@ use Rattle.figure.specs.Rounding.{figure, none, IsFigure, is-zero, IsDow
 use Rattle.figure.proofs.Scale.{pow-pos, not-≼, zero-below, ten-step, multiple-≼, Powers, same-power, lower, higher, powers, higher-≼}
 use Rattle.figure.proofs.Counts.{floor-reach, floor-greatest}
 use Rattle.figure.proofs.Digits.{start, start-low, start-not-high}
-use Rattle.figure.proofs.Value.{val, above-value, above-val, value-≼, val-≼, low-end, figure-of, Shape, empty, full, shape, figure-same}
+use Rattle.figure.proofs.Value.{val, above-value, above-val, value-≼, val-≼, low-end, figure-of, Shape, empty, full, shape, where-above, figure-same}
 
 -- ---- a figure is the greatest not above x, said of its digits and its power
 
@@ -57,12 +58,7 @@ from-close w x pos-x = go (ltb next (10 ^ (suc w - 1))) (λ t. rw (low-end w) at
 
 pub down-close : (w : ℕ) (x : Ratio) → 0 < x .num → Close w x (down (suc w) (signed x))
 unfolding down signed
-down-close w x pos-x = go (x .num) pos-x (from-close w x pos-x)
-  where
-    go : (n : ℕ) → 0 < n → Close w x (down-from (suc w) (signed x) (start w x))
-        → Close w x (elim n as (λ _. Figure) [ zero ↦ none | suc _ ↦ down-from (suc w) (signed x) (start w x) ])
-    go zero h t = absurd (lt-irrefl 0 h)
-    go (suc n) h t = t
+down-close w x pos-x = where-above (Close w x) (x .num) pos-x (from-close w x pos-x)
 
 close-greatest : (w : ℕ) (x : Ratio) (f : Figure) → Close w x f → (g : Figure) → IsFigure (suc w) g → val g ≼ x → val g ≼ val f
 close-greatest w x f t g i h = go (shape i)
@@ -98,11 +94,7 @@ zero-is-down w x z = record {
 }
 
 pub natural-down : (w : ℕ) (x : Ratio) → IsDown (suc w) (signed x) (down (suc w) (signed x))
-natural-down w x = go (x .num) refl
-  where
-    go : (n : ℕ) → x .num ≡ n → IsDown (suc w) (signed x) (down (suc w) (signed x))
-    go zero z = rw (down-zero (suc w) x z) (zero-is-down w x z)
-    go (suc n) z = close-is-down w x _ (down-close w x (rw z (zero-lt-suc n)))
+natural-down w x = ⊎-elim (λ z. rw (down-zero (suc w) x z) (zero-is-down w x z)) (λ h. close-is-down w x _ (down-close w x h)) (zero-or-pos x)
 
 pub down-unique : (w : ℕ) (x : Fraction) (f g : Figure) → IsDown (suc w) x f → IsDown (suc w) x g → f ≡ g
 down-unique w x f g a b = figure-same w f g (a .is-figure) (b .is-figure) (val-≼ f g (b .greatest f (a .is-figure) (a .not-above)))
@@ -137,8 +129,7 @@ close-near w x f t = prove (ofℕ (10 ^ w) ∷ x ∷ ofℕ D ∷ ten-to (f .powe
     D = f .digits
 
 pub down-near : (w : ℕ) (x : Ratio) → ofℕ (10 ^ w) ⊗ x ≼ ofℕ (10 ^ w) ⊗ val (down (suc w) (signed x)) ⊕ x
-down-near w x = go (x .num) refl
+down-near w x = ⊎-elim none-near (λ h. close-near w x _ (down-close w x h)) (zero-or-pos x)
   where
-    go : (n : ℕ) → x .num ≡ n → ofℕ (10 ^ w) ⊗ x ≼ ofℕ (10 ^ w) ⊗ val (down (suc w) (signed x)) ⊕ x
-    go zero z = ≼-trans (⊗-mono (≼-refl _) (zero-below (ofℕ 0) z)) (≼-trans (≈-le (⊗-comm _ _)) (≼-trans (≈-le (⊗-zero _)) (zero-≼ _)))
-    go (suc n) z = close-near w x _ (down-close w x (rw z (zero-lt-suc n)))
+    none-near : x .num ≡ 0 → ofℕ (10 ^ w) ⊗ x ≼ ofℕ (10 ^ w) ⊗ val (down (suc w) (signed x)) ⊕ x
+    none-near z = ≼-trans (⊗-mono (≼-refl _) (zero-below (ofℕ 0) z)) (≼-trans (≈-le (⊗-comm _ _)) (≼-trans (≈-le (⊗-zero _)) (zero-≼ _)))

@@ -5,13 +5,13 @@ use mathlib.Core.List.{[], _∷_}
 use mathlib.Core.Bool.{Bool, true, false, not}
 use mathlib.Core.Logic.{⊎-elim}
 use Prim.Native.Nat.{ℕ, zero, suc, _+_, _*_, _-_, _^_, _≤_, _<_}
-use native.Mathlib.Nat.{le-trans, pow-succ', zero-lt-suc, lt-irrefl, le-of-lt, eq-or-lt-of-le}
+use native.Mathlib.Nat.{le-trans, pow-succ', lt-irrefl, le-of-lt, eq-or-lt-of-le}
 use native.Mathlib.Omega.{arith, by-contra, patom, plit}
 use lib.Dec.{T, T-not, ltb, ltb→lt, nltb→le, eqb, eqb→eq, eqb-refl}
 use lib.Arith.{lt-of-le-ne}
 use lib.IntN.{ℤ, pos, sucℤ, predℤ, _+ℤ_, +ℤ-idr, +ℤ-sucℤ, sucℤ-+ℤ, pred-suc, +ℤ-one}
 use Rattle.fraction.specs.Fraction.{Fraction}
-use Rattle.fraction.proofs.Ratio.{Ratio, _≼_, ofℕ, _⊗_, ≼-refl, ≼-trans, ≈-le, ≈-ge, ⊗-mono, ofℕ-≼, ofℕ-⊕, ⊗-zero, zero-≼, pos-≼}
+use Rattle.fraction.proofs.Ratio.{Ratio, _≼_, ofℕ, _⊗_, ≼-refl, ≼-trans, ≈-le, ≈-ge, ⊗-mono, ofℕ-≼, ofℕ-⊕, ⊗-zero, zero-≼, zero-or-pos, pos-≼}
 use Rattle.fraction.proofs.Certificate.{_+'_, _*'_, prove, hyp}
 use Rattle.fraction.proofs.PowersOfTen.{ten-to}
 use Rattle.fraction.proofs.Signed.{signed}
@@ -21,7 +21,7 @@ use Rattle.figure.proofs.Scale.{pow-pos, not-≼, zero-below, not-zero,
 use Rattle.figure.proofs.Scale.{multiple-≤, multiple-≼, Powers, same-power, lower, higher, powers, lower-≼, higher-≼}
 use Rattle.figure.proofs.Counts.{ceiling-reach, ceiling-least}
 use Rattle.figure.proofs.Digits.{start, start-high, start-not-low}
-use Rattle.figure.proofs.Value.{val, below-value, below-val, value-≼, val-≼, low-end, figure-of, Shape, empty, full, shape, figure-same}
+use Rattle.figure.proofs.Value.{val, below-value, below-val, value-≼, val-≼, low-end, figure-of, Shape, empty, full, shape, where-above, figure-same}
 
 -- ---- a figure is the least not below x, said of its digits and its power
 
@@ -71,15 +71,10 @@ from-tight w (suc k) x e a h = go (ltb D (10 ^ suc w)) (λ t. rw (pow-succ' 10 w
 
 pub up-tight : (w : ℕ) (x : Ratio) → 0 < x .num → Tight w x (up (suc w) (signed x))
 unfolding up signed Beyond
-up-tight w x pos-x = go (x .num) pos-x (from-tight w 2 x (start w x) (start-not-low w x pos-x) high)
+up-tight w x pos-x = where-above (Tight w x) (x .num) pos-x (from-tight w 2 x (start w x) (start-not-low w x pos-x) high)
   where
     high : x ≼ ofℕ (10 ^ w) ⊗ ten-to (start w x +ℤ pos 2)
     high = rw (+ℤ-sucℤ (start w x) (pos 1), +ℤ-sucℤ (start w x) (pos 0), +ℤ-idr (start w x)) (start-high w x)
-
-    go : (n : ℕ) → 0 < n → Tight w x (up-from (suc w) 2 (signed x) (start w x))
-        → Tight w x (elim n as (λ _. Figure) [ zero ↦ none | suc _ ↦ up-from (suc w) 2 (signed x) (start w x) ])
-    go zero h t = absurd (lt-irrefl 0 h)
-    go (suc n) h t = t
 
 tight-least : (w : ℕ) (x : Ratio) (f : Figure) → Tight w x f → 0 < x .num → (g : Figure) → IsFigure (suc w) g → x ≼ val g → val f ≼ val g
 unfolding Beyond
@@ -115,11 +110,7 @@ zero-is-up w x z = record {
 }
 
 pub natural-up : (w : ℕ) (x : Ratio) → IsUp (suc w) (signed x) (up (suc w) (signed x))
-natural-up w x = go (x .num) refl
-  where
-    go : (n : ℕ) → x .num ≡ n → IsUp (suc w) (signed x) (up (suc w) (signed x))
-    go zero z = rw (up-zero (suc w) x z) (zero-is-up w x z)
-    go (suc n) z = let p : 0 < x .num = rw z (zero-lt-suc n) in tight-is-up w x _ (up-tight w x p) p
+natural-up w x = ⊎-elim (λ z. rw (up-zero (suc w) x z) (zero-is-up w x z)) (λ h. tight-is-up w x _ (up-tight w x h) h) (zero-or-pos x)
 
 pub up-unique : (w : ℕ) (x : Fraction) (f g : Figure) → IsUp (suc w) x f → IsUp (suc w) x g → f ≡ g
 up-unique w x f g a b = figure-same w f g (a .is-figure) (b .is-figure) (val-≼ f g (a .least g (b .is-figure) (b .not-below)))
@@ -197,9 +188,8 @@ tight-near w x f t = ⊎-elim one-power-lower less (eq-or-lt-of-le (t .big))
         ≼-trans (⊗-mono (≼-refl _) (rw (← h) (≈-le (ten-step-down (10 ^ w) e)))) (rw d at k)
 
 pub up-near : (w : ℕ) (x : Ratio) → ofℕ (10 ^ w) ⊗ val (up (suc w) (signed x)) ≼ ofℕ (10 ^ w + 1) ⊗ x
-up-near w x = go (x .num) refl
+up-near w x = ⊎-elim none-near (λ h. tight-near w x _ (up-tight w x h)) (zero-or-pos x)
   where
-    go : (n : ℕ) → x .num ≡ n → ofℕ (10 ^ w) ⊗ val (up (suc w) (signed x)) ≼ ofℕ (10 ^ w + 1) ⊗ x
-    go zero z = rw (up-zero (suc w) x z)
+    none-near : x .num ≡ 0 → ofℕ (10 ^ w) ⊗ val (up (suc w) (signed x)) ≼ ofℕ (10 ^ w + 1) ⊗ x
+    none-near z = rw (up-zero (suc w) x z)
         (prove (ofℕ (10 ^ w) ∷ ten-to (pos 0) ∷ ofℕ (10 ^ w + 1) ∷ x ∷ []) [] (patom 0 *' (plit 0 *' patom 1)) (patom 2 *' patom 3) tt)
-    go (suc n) z = tight-near w x _ (up-tight w x (rw z (zero-lt-suc n)))

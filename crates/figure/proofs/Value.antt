@@ -1,7 +1,7 @@
 -- The value of a figure as a fraction with a natural numerator, and that a figure's value settles the figure. K is w + 1. Assumes nothing.
 use mathlib.Core.Path.{_≡_, sym, _∙_, ap, ap₂}
-use Prim.Native.Nat.{ℕ, suc, _*_, _-_, _^_, _≤_, _<_}
-use native.Mathlib.Nat.{le-trans, le-antisymm, not-le-of-lt, pow-succ'}
+use Prim.Native.Nat.{ℕ, zero, suc, _*_, _-_, _^_, _≤_, _<_}
+use native.Mathlib.Nat.{le-trans, le-antisymm, not-le-of-lt, lt-irrefl, pow-succ'}
 use native.Mathlib.Omega.{arith}
 use lib.IntN.{pos}
 use Rattle.fraction.specs.Fraction.{_≤ᶠ_, _*ᶠ_}
@@ -9,7 +9,7 @@ use Rattle.fraction.proofs.Ratio.{Ratio, _≼_, ofℕ, _⊗_, ≼-trans}
 use Rattle.fraction.proofs.PowersOfTen.{ten-to}
 use Rattle.fraction.proofs.Signed.{signed, signed-≼, ≼-signed, signed-⊗, signed-whole, signed-ten}
 use Rattle.figure.specs.declared.Figure.{Figure}
-use Rattle.figure.specs.Rounding.{figure, value, IsFigure, is-zero, is-whole}
+use Rattle.figure.specs.Rounding.{figure, none, value, IsFigure, is-zero, is-whole}
 use Rattle.figure.proofs.Scale.{pow-pos, not-zero, multiple-pos, multiple-≤, Powers, same-power, lower, higher, powers, higher-≼}
 
 abbrev pub val : Figure → Ratio
@@ -55,6 +55,11 @@ pub data Shape (w : ℕ) (f : Figure) : Type 0 where
 pub shape : {w : ℕ} {f : Figure} → IsFigure (suc w) f → Shape w f
 shape (is-zero z p) = empty z p
 shape {w} (is-whole b s) = full (rw (low-end w) at b) (rw (pow-succ' 10 w) at s)
+
+-- f where n is above 0, and `none` where it is 0: for n above 0, what holds of f holds of it
+pub where-above : (P : Figure → Type 0) (n : ℕ) {f : Figure} → 0 < n → P f → P (elim n as (λ _. Figure) [ zero ↦ none | suc _ ↦ f ])
+where-above P zero h p = absurd (lt-irrefl 0 h)
+where-above P (suc n) h p = p
 
 -- ---- figures with one value are one figure
 
