@@ -58,7 +58,8 @@ total-add {m} {k} {f} {g} p q = rw (value-plus f g) (record { within = within-�
 -- two totals, added and rounded to nine digits
 total-nine : {m k : ℕ} {f g : Figure} {x y : Ratio} → TotalNear m k f x → TotalNear m k g y → TotalNear (m + 1) k (sum-to-nine-up f g) (x ⊕ y)
 unfolding sum-to-nine-up
-total-nine {m} {k} {f} {g} p q = rw (value-plus f g) (record { within = within-≼ one-more (within-trans (rounded-up (val f ⊕ val g)) (within-⊕ (p .within) (q .within))) })
+total-nine {m} {k} {f} {g} p q = rw (value-plus f g)
+    (record { within = within-≼ one-more (within-trans (rounded-up (val f ⊕ val g)) (within-⊕ (p .within) (q .within))) })
   where
     reorder : ρ m ⊗ σ k ⊗ ρ 1 ≈ ρ m ⊗ ρ 1 ⊗ σ k
     reorder = same-value (ρ m ∷ σ k ∷ ρ 1 ∷ []) (patom 0 *' patom 1 *' patom 2) (patom 0 *' patom 2 *' patom 1) tt tt
@@ -160,7 +161,8 @@ module _ {A : Type 0} where
     pub uppers-within : (ds cs : List A) → length ds ≤ 1000000 → length cs ≤ 1000000
         → Each (λ p. Near m (upper p) (exact p)) ds → Each (λ p. Near m (upper p) (exact p)) cs
         → Within (100001 over 100000) (val (sum-to-nine-up (total-of-uppers upper ds) (total-of-uppers upper cs))) (sum exact ds ⊕ sum exact cs)
-    uppers-within ds cs l k w v = within-≼ allowed-above (total-≤ 500 1000002 (omega arith) (omega arith) (total-nine (bounded ds l w) (bounded cs k v)) .within)
+    uppers-within ds cs l k w v = within-≼ allowed-above
+        (total-≤ 500 1000002 (omega arith) (omega arith) (total-nine (bounded ds l w) (bounded cs k v)) .within)
 
   -- The lower figure of any list of death paths: where each path's lower is short of at most 9,998 parts of 10^-8 of its cap, it lies from the exact
   -- sum less a ten-thousandth of the caps' sum to the exact sum.

@@ -39,13 +39,16 @@ module _ (upward : Bool) (a b : Figure) where
   no-difference h = sym (rounded-minus upward 9 a b ∙ rounded-zero upward 9 _ (⊖-nothing h))
 
   pub nothing-taken : b .digits ≡ 0 → IsFigure 9 a → a ≡ rounded upward 9 (value a -ᶠ value b)
-  nothing-taken z i = sym (rounded-minus upward 9 a b ∙ rounded-same upward 8 (⊖-zero (val a) (val b) (zero-num b z)) ∙ ap (rounded upward 9) (sym (value-is a)) ∙ rounded-own upward 8 a i)
+  nothing-taken z i = sym (rounded-minus upward 9 a b ∙ rounded-same upward 8 (⊖-zero (val a) (val b) (zero-num b z))
+      ∙ ap (rounded upward 9) (sym (value-is a)) ∙ rounded-own upward 8 a i)
 
   pub taken-from-nothing : a .digits ≡ 0 → IsFigure 9 a → a ≡ rounded upward 9 (value a -ᶠ value b)
   taken-from-nothing z i = zero-is-none (lit≤ tt) i z ∙ no-difference (record { le = rw (zero-num a z) (omega arith) })
 
-  pub higher-taken : Operand 9 a → Operand 9 b → (b .digits ≡ 0 → ⊥) → leZ (stored (b .power)) (stored (a .power)) ≡ false → none ≡ rounded upward 9 (value a -ᶠ value b)
-  higher-taken oa ob nb h = let (k, r) = above-strictly (a .power) (b .power) (sym (read-test (a .power) (b .power) (room tt (oa .near)) (room tt (ob .near))) ∙ h) in
+  pub higher-taken : Operand 9 a → Operand 9 b → (b .digits ≡ 0 → ⊥) → leZ (stored (b .power)) (stored (a .power)) ≡ false
+      → none ≡ rounded upward 9 (value a -ᶠ value b)
+  higher-taken oa ob nb h = let (k, r) = above-strictly (a .power) (b .power)
+      (sym (read-test (a .power) (b .power) (room tt (oa .near)) (room tt (ob .near))) ∙ h) in
       no-difference (lower-value 8 a b (oa .is-figure) (ob .is-figure) nb k r)
 
 -- ---- the second's power not above the first's
@@ -78,10 +81,12 @@ module _ {a b : Figure} {g : ℕ} (o : Ordered 9 a b) (g-is : pos g ≡ stored (
     pub near-nothing : (upward : Bool) → a .digits * t ≤ b .digits → none ≡ rounded upward 9 (value a -ᶠ value b)
     near-nothing upward h = no-difference upward a b (≼-trans (≈-le first-is) (multiple-≼ (b .power) (rw t-is at h)))
 
-    pub near-answer : (upward : Bool) {r : Figure} → r ≡ rounded upward 9 (value (figure (a .digits * t - b .digits) (stored (b .power)))) → r ≡ rounded upward 9 (value a -ᶠ value b)
+    pub near-answer : (upward : Bool) {r : Figure} → r ≡ rounded upward 9 (value (figure (a .digits * t - b .digits) (stored (b .power))))
+        → r ≡ rounded upward 9 (value a -ᶠ value b)
     near-answer upward e =
         e ∙ ap₂ (λ n p. rounded upward 9 (value (figure n p))) (ap (λ n. a .digits * n - b .digits) t-is) (kept (b .power) (omega (arith, o .second .near)))
-        ∙ ap (rounded upward 9) (value-is (figure (a .digits * 10 ^ g - b .digits) (b .power))) ∙ sym (rounded-same upward 8 difference-is) ∙ sym (rounded-minus upward 9 a b)
+        ∙ ap (rounded upward 9) (value-is (figure (a .digits * 10 ^ g - b .digits) (b .power))) ∙ sym (rounded-same upward 8 difference-is)
+        ∙ sym (rounded-minus upward 9 a b)
 
   -- far: it is just below the first
   module _ (far : 9 < g) where
@@ -103,7 +108,8 @@ module _ {a b : Figure} {g : ℕ} (o : Ordered 9 a b) (g-is : pos g ≡ stored (
     at-least : (upward : Bool) → a .digits ≡ 10 ^ 8 → directed upward 9 (parts 999999999 true) (a .power -ℤ pos 1) ≡ rounded upward 9 (signed (val a ⊖ val b))
     at-least upward z =
         ap₂ (directed upward 9) (sym (ap (λ n. part n T) n-is ∙ one-less (10 ^ 9) T (b .digits) (lit≤ tt) (o .second-some) unit)) (sym power)
-        ∙ rounded-part 8 (pow-pos (g - 1)) (over (g - 1)) (rw n-is (omega (arith, unit))) (rw n-is (omega (arith, unit, o .second-some, pow-pos (g - 1)))) upward
+        ∙ rounded-part 8 (pow-pos (g - 1)) (over (g - 1)) (rw n-is (omega (arith, unit)))
+        (rw n-is (omega (arith, unit, o .second-some, pow-pos (g - 1)))) upward
       where
         T : ℕ
         T = 10 ^ (g - 1)
@@ -127,7 +133,8 @@ module _ {a b : Figure} {g : ℕ} (o : Ordered 9 a b) (g-is : pos g ≡ stored (
         power = sym (ap (λ y. y -ℤ pos 1) (sym raised ∙ ap (λ m. b .power +ℤ pos m) (one-more g far) ∙ sym (+ℤ-assoc (b .power) (pos (g - 1)) (pos 1)))
             ∙ +ℤ-negℤ-cancel (b .power +ℤ pos (g - 1)) (pos 1))
 
-    above-least : (upward : Bool) → (a .digits ≡ 10 ^ 8 → ⊥) → directed upward 9 (parts (a .digits - 1) true) (a .power) ≡ rounded upward 9 (signed (val a ⊖ val b))
+    above-least : (upward : Bool) → (a .digits ≡ 10 ^ 8 → ⊥)
+        → directed upward 9 (parts (a .digits - 1) true) (a .power) ≡ rounded upward 9 (signed (val a ⊖ val b))
     above-least upward n =
         ap₂ (directed upward 9) (sym (one-less (a .digits) (10 ^ g) (b .digits) (o .first-some) (o .second-some) unit)) (sym raised)
         ∙ rounded-part 8 (pow-pos g) (over g) (low (10 ^ g) unit) (high (10 ^ g) (pow-pos g)) upward
@@ -149,7 +156,10 @@ module _ {a b : Figure} {g : ℕ} (o : Ordered 9 a b) (g-is : pos g ≡ stored (
     far-answer upward e = e ∙ go (eqb (a .digits) (10 ^ 8)) (eqb-true (a .digits) (10 ^ 8)) (eqb-false (a .digits) (10 ^ 8)) ∙ sym (rounded-minus upward 9 a b)
       where
         go : (t : Bool) → (t ≡ true → a .digits ≡ 10 ^ 8) → (t ≡ false → a .digits ≡ 10 ^ 8 → ⊥)
-            → elim t as (λ _. Figure) [ true ↦ directed upward 9 (parts 999999999 true) (a .power -ℤ pos 1) | false ↦ directed upward 9 (parts (a .digits - 1) true) (a .power) ]
+            → elim t as (λ _. Figure) [
+              | true ↦ directed upward 9 (parts 999999999 true) (a .power -ℤ pos 1)
+              | false ↦ directed upward 9 (parts (a .digits - 1) true) (a .power)
+            ]
             ≡ rounded upward 9 (signed (val a ⊖ val b))
         go true p q = at-least upward (p refl)
         go false p q = above-least upward (q refl)
@@ -158,15 +168,18 @@ module _ {a b : Figure} {g : ℕ} (o : Ordered 9 a b) (g-is : pos g ≡ stored (
 
 module _ (upward : Bool) {a : Figure} (s : Sized 9 200000 a) where
   one-lower : {u : ℤ} → u ≡ stored (a .power) -ℤ pos 1 → stored u ≡ a .power -ℤ pos 1
-  one-lower e = ap stored (read-difference (a .power) (pos 1) (room tt (s .near)) (lit≤ tt) e) ∙ kept (a .power -ℤ pos 1) (omega (arith, mag-difference (a .power) (pos 1), s .near))
+  one-lower e = ap stored (read-difference (a .power) (pos 1) (room tt (s .near)) (lit≤ tt) e)
+      ∙ kept (a .power -ℤ pos 1) (omega (arith, mag-difference (a .power) (pos 1), s .near))
 
   pub lower-near : {u : ℤ} → u ≡ stored (a .power) -ℤ pos 1 → mag (stored u) ≤ 1000000
   lower-near e = rw (one-lower e) (omega (arith, mag-difference (a .power) (pos 1), s .near))
 
-  pub below-least : {u : ℤ} {r : Figure} → a .digits ≡ 10 ^ 8 → u ≡ stored (a .power) -ℤ pos 1 → r ≡ directed upward 9 (parts 999999999 true) (stored u) → r ≡ just-below upward a
+  pub below-least : {u : ℤ} {r : Figure} → a .digits ≡ 10 ^ 8 → u ≡ stored (a .power) -ℤ pos 1 → r ≡ directed upward 9 (parts 999999999 true) (stored u)
+      → r ≡ just-below upward a
   unfolding just-below
   below-least z e f = f ∙ ap (directed upward 9 (parts 999999999 true)) (one-lower e) ∙ sym (rw (eq-eqb (a .digits) (10 ^ 8) z, just-below))
 
   pub below-more : {r : Figure} → (a .digits ≡ 10 ^ 8 → ⊥) → r ≡ directed upward 9 (parts (a .digits - 1) true) (stored (a .power)) → r ≡ just-below upward a
   unfolding just-below
-  below-more n f = f ∙ ap (directed upward 9 (parts (a .digits - 1) true)) (kept (a .power) (omega (arith, s .near))) ∙ sym (rw (ne-eqb (a .digits) (10 ^ 8) n, just-below))
+  below-more n f = f ∙ ap (directed upward 9 (parts (a .digits - 1) true)) (kept (a .power) (omega (arith, s .near)))
+      ∙ sym (rw (ne-eqb (a .digits) (10 ^ 8) n, just-below))

@@ -82,7 +82,8 @@ module _ {f : Figure} (p : ℤ) (o : Operand 9 f) where
 
   pub times-ten-whole : {s : ℤ} → (f .digits ≡ 0 → ⊥) → mag p ≤ 100000 → s ≡ stored (f .power) +ℤ stored p → figure (f .digits) (stored s) ≡ times-ten f p
   unfolding times-ten
-  times-ten-whole n h e = ap (figure (f .digits)) (ap stored (read-sum (f .power) p (room tt (o .near)) (room tt h) e) ∙ kept (f .power +ℤ p) near) ∙ go (f .digits) n
+  times-ten-whole n h e = ap (figure (f .digits)) (ap stored (read-sum (f .power) p (room tt (o .near)) (room tt h) e) ∙ kept (f .power +ℤ p) near)
+      ∙ go (f .digits) n
     where
       near : mag (f .power +ℤ p) ≤ 2000000002
       near = omega (arith, mag-sum (f .power) p, o .near)

@@ -64,7 +64,8 @@ below-strictly p q h n = go (powers p q)
 
 -- ---- figures of w + 1 digits, b with the higher power
 
-module _ (w : ℕ) (a b : Figure) (ia : IsFigure (suc w) a) (ib : IsFigure (suc w) b) (nb : b .digits ≡ 0 → ⊥) (k : ℕ) (r : b .power ≡ a .power +ℤ pos (suc k)) where
+module _ (w : ℕ) (a b : Figure) (ia : IsFigure (suc w) a) (ib : IsFigure (suc w) b) (nb : b .digits ≡ 0 → ⊥) (k : ℕ)
+    (r : b .power ≡ a .power +ℤ pos (suc k)) where
   tenfold : ofℕ (10 * 10 ^ w) ⊗ ten-to (a .power) ≼ val b
   tenfold = rw r (higher-≼ (10 ^ w) (b .digits) (a .power) k (digits-low ib nb))
 

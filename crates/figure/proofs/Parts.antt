@@ -131,7 +131,8 @@ module _ (e : ℤ) (h : mag e ≤ 1000000) where
     unfolding trimmed
     trimmed-short l q = q ∙ ap (directed upward K p) (kept e (omega arith)) ∙ sym (rw (lt-ltb (p .whole) (10 ^ K) l, trimmed))
 
-    pub trimmed-long : {r : Figure} {s : ℤ} {q : Part} → 10 ^ K ≤ p .whole → q ≡ shorter p 10 → s ≡ stored e +ℤ pos 1 → r ≡ directed upward K q (stored s) → r ≡ trimmed upward K p e
+    pub trimmed-long : {r : Figure} {s : ℤ} {q : Part} → 10 ^ K ≤ p .whole → q ≡ shorter p 10 → s ≡ stored e +ℤ pos 1 → r ≡ directed upward K q (stored s)
+        → r ≡ trimmed upward K p e
     unfolding trimmed
     trimmed-long l g f q = q ∙ ap₂ (directed upward K) g (next-kept f) ∙ sym (rw (le-ltb (p .whole) (10 ^ K) l, trimmed))
 

@@ -86,7 +86,8 @@ module _ {a b : Figure} (oa : Operand 9 a) (ob : Operand 9 b) where
       (digits-low (oa .is-figure) (λ z. n (rw z (zero-mul _)))) (digits-low (ob .is-figure) (λ z. n (rw z (mul-zero _))))
 
   -- the digits and the powers on the way, as the code has them
-  module _ {z : Scaled} {s : ℤ} (n : a .digits * b .digits ≡ 0 → ⊥) (z-is : z ≡ scaling (a .digits * b .digits)) (s-is : s ≡ stored (a .power) +ℤ stored (b .power)) where
+  module _ {z : Scaled} {s : ℤ} (n : a .digits * b .digits ≡ 0 → ⊥) (z-is : z ≡ scaling (a .digits * b .digits))
+      (s-is : s ≡ stored (a .power) +ℤ stored (b .power)) where
     nine : Nine (a .digits * b .digits) z
     nine = rw z-is (scaling-nine (a .digits * b .digits) (product-large n) product-small)
 
@@ -118,5 +119,6 @@ module _ {a b : Figure} (oa : Operand 9 a) (ob : Operand 9 b) where
       pub product-answer : (upward : Bool) {r : Figure} → r ≡ directed upward 9 (z .part) (stored u) → r ≡ rounded upward 9 (value a *ᶠ value b)
       product-answer upward e =
           e ∙ ap₂ (directed upward 9) (nine .part-is) (kept u (omega (arith, total-near)) ∙ total-is ∙ ap₂ _+ℤ_ sum-is (nine .dropped-is))
-          ∙ rounded-part 8 (pow-pos (nine .k)) (over-tens (a .digits * b .digits) (nine .k) (a .power +ℤ b .power) (product-is a b)) (nine .low) (nine .high) upward
+          ∙ rounded-part 8 (pow-pos (nine .k)) (over-tens (a .digits * b .digits) (nine .k) (a .power +ℤ b .power) (product-is a b)) (nine .low)
+          (nine .high) upward
           ∙ ap (rounded upward 9) (sym (value-times a b))

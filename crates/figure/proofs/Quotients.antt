@@ -107,7 +107,9 @@ module _ {a b : Figure} (oa : Operand 9 a) (ob : Operand 9 b) (hb : 0 < b .digit
         pub quotient-power : mag (stored u) ≤ 1000000
         quotient-power = rw (kept u (omega (arith, power-near))) (omega (arith, power-near))
 
-        pub quotient-answer : (upward : Bool) {q : Part} {r : Figure} → q ≡ part (a .digits * t) (b .digits) → r ≡ directed upward 9 q (stored u) → r ≡ rounded upward 9 (value a /ᶠ value b)
+        pub quotient-answer : (upward : Bool) {q : Part} {r : Figure} → q ≡ part (a .digits * t) (b .digits) → r ≡ directed upward 9 q (stored u)
+            → r ≡ rounded upward 9 (value a /ᶠ value b)
         quotient-answer upward f e =
-            e ∙ ap₂ (directed upward 9) (f ∙ ap (λ n. part (a .digits * n) (b .digits)) t-is) (kept u (omega (arith, power-near)) ∙ power-is ∙ ap₂ _-ℤ_ difference-is z-is)
+            e ∙ ap₂ (directed upward 9) (f ∙ ap (λ n. part (a .digits * n) (b .digits)) t-is)
+            (kept u (omega (arith, power-near)) ∙ power-is ∙ ap₂ _-ℤ_ difference-is z-is)
             ∙ rounded-part 8 hb (quotient-over a b k hb) (pad .low) (pad .high) upward ∙ ap (rounded upward 9) (sym (value-divided a b))

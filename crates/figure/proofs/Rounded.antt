@@ -38,7 +38,8 @@ over-lift {x} {n} {t} {e} k o = record {
 
 module _ {x : Ratio} {n t : ℕ} {e : ℤ} (ht : 0 < t) (o : Over x n t e) where
   scaled : (c : ℕ) → ofℕ t ⊗ (ofℕ c ⊗ ten-to e) ≈ ofℕ (c * t) ⊗ ten-to e
-  scaled c = ≈-trans (same-value (ofℕ t ∷ ofℕ c ∷ ten-to e ∷ []) (patom 0 *' (patom 1 *' patom 2)) (patom 1 *' patom 0 *' patom 2) tt tt) (⊗-cong (≈-sym (ofℕ-⊗ c t)) (≈-refl _))
+  scaled c = ≈-trans (same-value (ofℕ t ∷ ofℕ c ∷ ten-to e ∷ []) (patom 0 *' (patom 1 *' patom 2)) (patom 1 *' patom 0 *' patom 2) tt tt)
+      (⊗-cong (≈-sym (ofℕ-⊗ c t)) (≈-refl _))
 
   times-t : ofℕ t ⊗ x ≈ ofℕ n ⊗ ten-to e
   times-t = ≈-trans (⊗-comm _ _) (o .is)
@@ -80,7 +81,8 @@ module _ (w : ℕ) {x : Ratio} {n t : ℕ} {e : ℤ} (ht : 0 < t) (o : Over x n 
 
   up-more : (n / t * t ≡ n → ⊥) → carry (suc w) (n / t + 1) e ≡ up (suc w) (signed x)
   up-more z = carry-is w (n / t + 1) e ∙ Up.round-up w x (n / t + 1) e low-reach (above ht o (n / t + 1) (omega (arith, lt-div-mul-add {a = n} ht)))
-      (λ c h. by-contra (n / t + 1) c (λ l. z (le-antisymm (div-mul-le-self n t) (le-trans (from-above ht o c h) (mul-le-mul-right t (le-pred l)))))) (omega (arith, small))
+      (λ c h. by-contra (n / t + 1) c (λ l. z (le-antisymm (div-mul-le-self n t) (le-trans (from-above ht o c h) (mul-le-mul-right t (le-pred l))))))
+      (omega (arith, small))
     where
       le-pred : {c : ℕ} → c < n / t + 1 → c ≤ n / t
       le-pred l = omega arith
@@ -120,6 +122,8 @@ rounded-trimmed w {x} {n} {t} {e} ht o low high upward = go (ltb whole (10 ^ suc
     long h = let k : 10 * 10 ^ w * t ≤ n = le-div-iff-mul-le ht .0 (rw (pow-succ' 10 w) at h) in omega (arith, k)
 
     go : (b : Bool) → (b ≡ true → whole < 10 ^ suc w) → (b ≡ false → 10 ^ suc w ≤ whole)
-        → elim b as (λ _. Figure) [ true ↦ directed upward (suc w) (part n t) e | false ↦ directed upward (suc w) (shorter (part n t) 10) (e +ℤ pos 1) ] ≡ rounded upward (suc w) (signed x)
+        → elim b as (λ _. Figure) [ true ↦ directed upward (suc w) (part n t) e | false ↦ directed upward (suc w) (shorter (part n t) 10) (e +ℤ pos 1) ]
+        ≡ rounded upward (suc w) (signed x)
     go true p q = rounded-part w ht o low (fits (p refl)) upward
-    go false p q = rw (shorter-part n t 10 ht (zero-lt-suc 9)) (rounded-part w (mul-pos ht (zero-lt-suc 9)) (over-lift 1 o) (long (q refl)) (omega (arith, high)) upward)
+    go false p q = rw (shorter-part n t 10 ht (zero-lt-suc 9))
+        (rounded-part w (mul-pos ht (zero-lt-suc 9)) (over-lift 1 o) (long (q refl)) (omega (arith, high)) upward)

@@ -81,7 +81,8 @@ module _ {a b : Figure} (al : Alignable a b) where
   pub whole-fits : (g : ℕ) {l : Part} → l ≡ part (b .digits) (10 ^ g) → Fits w64 (a .digits + l .whole)
   whole-fits g e = rw e (unfold part in omega (arith, al .first-high, al .second-high, div-le-self (b .digits) (10 ^ g)))
 
-  pub aligned-is : (g : ℕ) {l : Part} → pos g ≡ stored (a .power) -ℤ stored (b .power) → l ≡ part (b .digits) (10 ^ g) → parts (a .digits + l .whole) (l .rest) ≡ aligned-sum a b
+  pub aligned-is : (g : ℕ) {l : Part} → pos g ≡ stored (a .power) -ℤ stored (b .power) → l ≡ part (b .digits) (10 ^ g)
+      → parts (a .digits + l .whole) (l .rest) ≡ aligned-sum a b
   unfolding aligned-sum
   aligned-is g f e =
       rw (e ∙ ap (λ n. part (b .digits) (10 ^ n)) gap-is ∙ part-split (b .digits) (10 ^ gap-of a b) (pow-pos (gap-of a b)))
@@ -117,7 +118,8 @@ pub sum-over : {K : ℕ} {a b : Figure} → Ordered K a b → Over (val a ⊕ va
 sum-over {K} {a} {b} o = record { is = sum-is a b (10 ^ gap-of a b) (gap-ten (o .order)) }
 
 -- one law over the direction and the width
-sum-rounded : (upward : Bool) (w : ℕ) {a b : Figure} → Ordered (suc w) a b → trimmed upward (suc w) (aligned-sum a b) (a .power) ≡ rounded upward (suc w) (value a +ᶠ value b)
+sum-rounded : (upward : Bool) (w : ℕ) {a b : Figure} → Ordered (suc w) a b
+    → trimmed upward (suc w) (aligned-sum a b) (a .power) ≡ rounded upward (suc w) (value a +ᶠ value b)
 unfolding aligned-sum
 sum-rounded upward w {a} {b} o =
     rounded-trimmed w (pow-pos (gap-of a b)) (sum-over o) (low (10 ^ gap-of a b)) (high (10 ^ gap-of a b) (pow-pos (gap-of a b))) upward
@@ -146,16 +148,19 @@ by-width P f {K} k = go K (k .some)
     go (suc w) h = f w
 
 module _ (upward : Bool) {K : ℕ} (k : Width K) where
-  pub sum-answer : {a b : Figure} {p : Part} {r : Figure} → Ordered K a b → p ≡ aligned-sum a b → r ≡ trimmed upward K p (stored (a .power)) → r ≡ rounded upward K (value a +ᶠ value b)
+  pub sum-answer : {a b : Figure} {p : Part} {r : Figure} → Ordered K a b → p ≡ aligned-sum a b → r ≡ trimmed upward K p (stored (a .power))
+      → r ≡ rounded upward K (value a +ᶠ value b)
   sum-answer {a} {b} o e q = q ∙ ap₂ (trimmed upward K) e (kept (a .power) (omega (arith, o .first .near))) ∙ at-width k o
     where
       at-width : {n : ℕ} → Width n → Ordered n a b → trimmed upward n (aligned-sum a b) (a .power) ≡ rounded upward n (value a +ᶠ value b)
-      at-width = by-width (λ n. Ordered n a b → trimmed upward n (aligned-sum a b) (a .power) ≡ rounded upward n (value a +ᶠ value b)) (λ w. sum-rounded upward w)
+      at-width = by-width (λ n. Ordered n a b → trimmed upward n (aligned-sum a b) (a .power) ≡ rounded upward n (value a +ᶠ value b))
+          (λ w. sum-rounded upward w)
 
   pub sum-swap : (a b : Figure) → rounded upward K (value b +ᶠ value a) ≡ rounded upward K (value a +ᶠ value b)
   sum-swap a b =
       ap (rounded upward K) (value-plus b a)
-      ∙ by-width (λ n. rounded upward n (signed (val b ⊕ val a)) ≡ rounded upward n (signed (val a ⊕ val b))) (λ w. rounded-same upward w (⊕-comm (val b) (val a))) k
+      ∙ by-width (λ n. rounded upward n (signed (val b ⊕ val a)) ≡ rounded upward n (signed (val a ⊕ val b)))
+      (λ w. rounded-same upward w (⊕-comm (val b) (val a))) k
       ∙ ap (rounded upward K) (sym (value-plus a b))
 
   pub nothing-added : (a b : Figure) → a .digits ≡ 0 → rounded upward K (value b) ≡ rounded upward K (value a +ᶠ value b)

@@ -60,7 +60,8 @@ module _ {a : Figure} (o : Operand 9 a) where
 
   pub widened-answer : {u : ℤ} → (a .digits ≡ 0 → ⊥) → u ≡ stored (a .power) -ℤ pos 9 → figure (a .digits * 1000000000) (stored u) ≡ widening a
   widened-answer n e =
-      ap (figure (a .digits * 10 ^ 9)) (ap stored (read-difference (a .power) (pos 9) (room tt (o .near)) (lit≤ tt) e) ∙ kept (a .power -ℤ pos 9) (omega (arith, wide-near)))
+      ap (figure (a .digits * 10 ^ 9))
+      (ap stored (read-difference (a .power) (pos 9) (room tt (o .near)) (lit≤ tt) e) ∙ kept (a .power -ℤ pos 9) (omega (arith, wide-near)))
       ∙ sym (widening-whole a n)
 
   not-zero : 10 ^ 8 ≤ a .digits → a .digits ≡ 0 → ⊥
@@ -80,7 +81,8 @@ module _ {a : Figure} (o : Operand 9 a) where
       go (is-zero z p) = rw (widening-none a z, zero-is-none (lit≤ tt) (o .is-figure) z) (≈-refl _)
       go (is-whole l h) = rw (widening-whole a (not-zero l)) (ten-shift (a .digits) 9 (a .power))
 
-  pub total-answer : (upward : Bool) (t : Figure) {w r : Figure} → w ≡ widening a → r ≡ rounded upward 18 (value t +ᶠ value w) → r ≡ rounded upward 18 (value t +ᶠ value a)
+  pub total-answer : (upward : Bool) (t : Figure) {w r : Figure} → w ≡ widening a → r ≡ rounded upward 18 (value t +ᶠ value w)
+      → r ≡ rounded upward 18 (value t +ᶠ value a)
   total-answer upward t e f =
       f ∙ ap (λ g. rounded upward 18 (value t +ᶠ value g)) e ∙ ap (rounded upward 18) (value-plus t (widening a))
       ∙ rounded-same upward 17 (⊕-cong (≈-refl (val t)) widening-value) ∙ ap (rounded upward 18) (sym (value-plus t a))
@@ -122,10 +124,12 @@ module _ {a b : Figure} {p q : Part} (o : Ordered 18 a b) (p-is : p ≡ aligned-
   pub sum-nine-below : q .whole < 10 * 10 ^ 9
   sum-nine-below = rw q-is (shorter-small p (10 * 10 ^ 9) (10 ^ 9) (lit≤ tt) (aligned-small o p-is))
 
-  pub sum-nine-answer : (upward : Bool) {u : ℤ} {r : Figure} → u ≡ stored (a .power) +ℤ pos 9 → r ≡ trimmed upward 9 q (stored u) → r ≡ rounded upward 9 (value a +ᶠ value b)
+  pub sum-nine-answer : (upward : Bool) {u : ℤ} {r : Figure} → u ≡ stored (a .power) +ℤ pos 9 → r ≡ trimmed upward 9 q (stored u)
+      → r ≡ rounded upward 9 (value a +ᶠ value b)
   sum-nine-answer upward e h =
       h ∙ ap₂ (trimmed upward 9) (q-is ∙ ap (λ s. shorter s (10 ^ 9)) p-is ∙ shorten) (raised-is (a .power) (o .first .near) e)
-      ∙ rounded-trimmed 8 (mul-pos (pow-pos (gap-of a b)) (pow-pos 9)) (over-lift 9 (sum-over o)) (low (10 ^ gap-of a b)) (high (10 ^ gap-of a b) (pow-pos (gap-of a b))) upward
+      ∙ rounded-trimmed 8 (mul-pos (pow-pos (gap-of a b)) (pow-pos 9)) (over-lift 9 (sum-over o)) (low (10 ^ gap-of a b))
+      (high (10 ^ gap-of a b) (pow-pos (gap-of a b))) upward
       ∙ ap (rounded upward 9) (sym (value-plus a b))
     where
       shorten : shorter (aligned-sum a b) (10 ^ 9) ≡ part (a .digits * 10 ^ gap-of a b + b .digits) (10 ^ gap-of a b * 10 ^ 9)

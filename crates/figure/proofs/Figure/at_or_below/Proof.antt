@@ -15,8 +15,10 @@ returns-3 c = let i = c .before .before in let t = i .before in let u = t .befor
     one-power (s .args .self) (s .args .other) (search needs) (search needs) (i .if3 .taken)
 
 returns-4 : tie.Need-returns-4
-returns-4 c = let i = c .before .before .before .before in let t = i .before in let u = t .before .before in let e = u .before .before in let s = e .before .before .before .before in
-    two-powers (s .args .self) (s .args .other) (search needs) (search needs) (s .pre .0) (s .pre .1) (e .before .before .if1 .left) (e .if2 .left) (i .if3 .left)
+returns-4 c = let i = c .before .before .before .before in let t = i .before in let u = t .before .before in let e = u .before .before in
+    let s = e .before .before .before .before in
+    two-powers (s .args .self) (s .args .other) (search needs) (search needs) (s .pre .0) (s .pre .1) (e .before .before .if1 .left) (e .if2 .left)
+    (i .if3 .left)
 
 pub at-or-below-spec : {M : Type 1} → statement M
 at-or-below-spec = tie.close (tie.spec returns returns-2 returns-3 returns-4)

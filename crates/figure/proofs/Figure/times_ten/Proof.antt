@@ -8,7 +8,8 @@ returns : tie.Need-returns
 returns c = let s = c .before .before in times-ten-zero (s .args .p) (s .pre .0) (c .if1 .taken)
 
 sum-requires : tie.Need-sum-requires
-sum-requires c κs = let s = c .before .before .before in (kept-near (s .args .self .power) (room tt (s .pre .0 .near)), kept-near (s .args .p) (room tt (s .pre .1)))
+sum-requires c κs = let s = c .before .before .before in
+    (kept-near (s .args .self .power) (room tt (s .pre .0 .near)), kept-near (s .args .p) (room tt (s .pre .1)))
 
 returns-2 : tie.Need-returns-2
 returns-2 c = let i = c .before .before in let s = i .before .before in times-ten-whole (s .args .p) (s .pre .0) (i .if1 .left) (s .pre .1) (c .sum .ensures)

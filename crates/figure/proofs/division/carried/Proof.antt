@@ -18,7 +18,8 @@ returns c = let t = c .before .before in let s = t .before in
     carried-full (s .args .power) (s .pre .1) (s .pre .0) (t .ten-to .ensures) (c .before .if1 .taken) (c .sum .ensures)
 
 returns-2 : tie.Need-returns-2
-returns-2 c = let t = c .before in let s = t .before in carried-short (s .args .power) (s .pre .1) (s .args .width) (s .args .digits) (t .ten-to .ensures) (c .if1 .left)
+returns-2 c = let t = c .before in let s = t .before in
+    carried-short (s .args .power) (s .pre .1) (s .args .width) (s .args .digits) (t .ten-to .ensures) (c .if1 .left)
 
 pub carried-spec : {M : Type 1} → statement M
 carried-spec = tie.close (tie.spec ten-to-requires sum-requires returns returns-2)

@@ -13,7 +13,8 @@ carried-requires c κs = search needs
 
 returns : tie.Need-returns
 returns c = let s = c .before .before .before in
-    directed-more (s .args .power) (s .pre .2) (s .args .upward) (s .args .width) (s .args .p) (c .before .before .if1 .taken) (c .before .if2 .taken) (c .carried .ensures)
+    directed-more (s .args .power) (s .pre .2) (s .args .upward) (s .args .width) (s .args .p) (c .before .before .if1 .taken) (c .before .if2 .taken)
+    (c .carried .ensures)
 
 returns-2 : tie.Need-returns-2
 returns-2 c = let s = c .before .before in directed-exact (s .args .power) (s .pre .2) (s .args .upward) (s .args .width) (s .args .p) (c .if2 .left)

@@ -18,7 +18,8 @@ directed-requires c κs = let t = c .before .before in let s = t .before in
 
 returns : tie.Need-returns
 returns c = let t = c .before .before .before in let s = t .before in
-    trimmed-short (s .args .power) (omega (arith, s .pre .2)) (s .args .upward) (s .args .width) (s .args .part) (rw (t .ten-to .ensures) at (c .before .if1 .taken)) (c .directed .ensures)
+    trimmed-short (s .args .power) (omega (arith, s .pre .2)) (s .args .upward) (s .args .width) (s .args .part)
+    (rw (t .ten-to .ensures) at (c .before .if1 .taken)) (c .directed .ensures)
 
 shortened-requires : tie.Need-shortened-requires
 shortened-requires c κs = search needs

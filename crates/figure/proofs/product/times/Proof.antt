@@ -34,7 +34,8 @@ directed-requires c κs =
 returns-2 : tie.Need-returns-2
 returns-2 c =
     let u = c .before .before .before in let d = u .before .before .before .before in let i = d .before in let s = i .before .before .before in
-    product-answer (s .pre .0) (s .pre .1) (i .if1 .left) (d .nine-digits .ensures) (u .sum .ensures) (c .before .sum2 .ensures) (s .args .upward) (c .directed .ensures)
+    product-answer (s .pre .0) (s .pre .1) (i .if1 .left) (d .nine-digits .ensures) (u .sum .ensures) (c .before .sum2 .ensures) (s .args .upward)
+    (c .directed .ensures)
 
 pub times-spec : {M : Type 1} → statement M
 times-spec =

@@ -36,17 +36,20 @@ difference-requires-2 c κs =
 
 directed-requires : tie.Need-directed-requires
 directed-requires c κs =
-    let y = c .before in let p = y .before .before .before .before in let t = p .before .before in let z = t .before in let h = z .before .before .before .pre in (
+    let y = c .before in let p = y .before .before .before .before in let t = p .before .before in let z = t .before in
+    let h = z .before .before .before .pre in (
       search needs,
       quotient-below (h .0) (h .1) (h .2) (z .zeros-needed .ensures) (t .ten-to .ensures) (p .parted .ensures),
-      quotient-power (h .0) (h .1) (h .2) (z .zeros-needed .ensures) (t .ten-to .ensures) (y .before .difference .ensures) (y .positive .ensures) (c .difference2 .ensures),
+      quotient-power (h .0) (h .1) (h .2) (z .zeros-needed .ensures) (t .ten-to .ensures) (y .before .difference .ensures) (y .positive .ensures)
+          (c .difference2 .ensures),
     )
 
 returns-2 : tie.Need-returns-2
 returns-2 c =
     let x = c .before in let y = x .before in let p = y .before .before .before .before in
     let t = p .before .before in let z = t .before in let s = z .before .before .before in let h = s .pre in
-    quotient-answer (h .0) (h .1) (h .2) (z .zeros-needed .ensures) (t .ten-to .ensures) (y .before .difference .ensures) (y .positive .ensures) (x .difference2 .ensures)
+    quotient-answer (h .0) (h .1) (h .2) (z .zeros-needed .ensures) (t .ten-to .ensures) (y .before .difference .ensures) (y .positive .ensures)
+    (x .difference2 .ensures)
     (s .args .upward) (p .parted .ensures) (c .directed .ensures)
 
 pub divided-spec : {M : Type 1} → statement M

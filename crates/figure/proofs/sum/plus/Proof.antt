@@ -10,7 +10,8 @@ returns c = let s = c .before .before in sum-zero (s .args .upward) (s .pre .0) 
 
 returns-2 : tie.Need-returns-2
 returns-2 c = let s = c .before .before .before .before in
-    sum-zero (s .args .upward) (s .pre .0) (s .args .b) (s .args .a) (c .if2 .taken) (s .pre .1 .is-figure) ∙ sum-swap (s .args .upward) (s .pre .0) (s .args .a) (s .args .b)
+    sum-zero (s .args .upward) (s .pre .0) (s .args .b) (s .args .a) (c .if2 .taken) (s .pre .1 .is-figure)
+    ∙ sum-swap (s .args .upward) (s .pre .0) (s .args .a) (s .args .b)
 
 joined-requires : tie.Need-joined-requires
 joined-requires c κs = let t = c .before .before .before .before .before in let s = t .before .before .before .before in

@@ -18,7 +18,8 @@ to-nine-requires-2 c κs = search needs
 
 returns-2 : tie.Need-returns-2
 returns-2 c = let s = c .before .before .before .before .before in
-    c .to-nine2 .ensures ∙ nothing-added (s .args .upward) nine (s .args .s) (s .args .t) (c .before .if2 .taken) ∙ sum-swap (s .args .upward) nine (s .args .t) (s .args .s)
+    c .to-nine2 .ensures ∙ nothing-added (s .args .upward) nine (s .args .s) (s .args .t) (c .before .if2 .taken)
+    ∙ sum-swap (s .args .upward) nine (s .args .t) (s .args .s)
 
 joined-requires : tie.Need-joined-requires
 joined-requires c κs = let t = c .before .before .before .before .before in let s = t .before .before .before .before in

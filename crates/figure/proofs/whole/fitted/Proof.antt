@@ -25,7 +25,8 @@ difference-requires c κs = let t = c .before in let i = t .before in let d = i 
 
 returns-2 : tie.Need-returns-2
 returns-2 c = let z = c .before in let t = z .before in let i = t .before in let d = i .before in let s = d .before .before in
-    padding-answer (d .digit-count .ensures) (i .if2 .taken) (t .ten-to .ensures) (s .args .power) (s .pre) (z .positive .ensures) (s .args .upward) (c .difference .ensures)
+    padding-answer (d .digit-count .ensures) (i .if2 .taken) (t .ten-to .ensures) (s .args .power) (s .pre) (z .positive .ensures) (s .args .upward)
+    (c .difference .ensures)
 
 sub-k : tie.Need-sub-k
 sub-k c = search needs
