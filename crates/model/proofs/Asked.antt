@@ -109,7 +109,8 @@ body-manner false ws i = slow (quantity (getD ws i 0))
 body-manner true ws i = fast (quantity (getD ws i 0)) (quantity (getD ws (suc i) 0)) (quantity (getD ws (suc (suc i)) 0))
 
 module _ (m : Model) (a b : ℕ) (ws : List ℕ) (i : ℕ) where
-  pub body-stops : (fast? : Bool) (n p : ℕ) → words-answer (body-faults fast?) i ws ≡ refused n p → read-from (behind-word fast? m a b) i (drop i ws) ≡ refused n p
+  pub body-stops : (fast? : Bool) (n p : ℕ) → words-answer (body-faults fast?) i ws ≡ refused n p
+      → read-from (behind-word fast? m a b) i (drop i ws) ≡ refused n p
   body-stops false n p e = stops _ _ _ (asks-rate m a b) ws i _ n p e (λ e₁. none-refused (suc i) ws n p e₁)
   body-stops true n p e =
       stops _ _ _ (asks-mean m a b) ws i _ n p e

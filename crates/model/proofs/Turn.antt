@@ -128,7 +128,8 @@ module _ (a : Accepted) (ws : List ℕ) (i known : ℕ) (slots counts places : L
 
     room-same : first-fault (room-faults ws slots places (getD counts (from-field w) 0) known w) i ≡ first-fault table-faults i
     room-same =
-        let count : getD counts (from-field w) 0 ≡ length (exits-in (m .net .table) (from-field w)) = at .begun .indexed .counts-are (from-field w) from-small in
+        let count : getD counts (from-field w) 0 ≡ length (exits-in (m .net .table) (from-field w)) =
+        at .begun .indexed .counts-are (from-field w) from-small in
         let stood = stood-is a ws slots counts places _ (at .begun) w is-word from-small in
         ap (λ (b : Bool). first-fault ((b gives 8) ∷ (leb 16 (getD counts (from-field w) 0) || leb 4000 known gives 9) ∷ []) i) stood
         ∙ rw (count, at .begun .far .number)

@@ -1,6 +1,6 @@
 // The sums of the probabilities of each state's fast exits, in whole numbers of 10^-12.
+use crate::index::slot_place;
 use crate::index::small;
-use crate::index::wide;
 use crate::words::is_fast;
 use crate::words::quantity_at;
 use crate::words::word_at;
@@ -49,8 +49,7 @@ fn uneven(words: &[u32], slots: &[u16; 16016], places: &[u16; 4000], s: usize, n
     let mut any = false;
     let mut i = 0;
     while i < n {
-        let j = wide(slots[s * 16 + i]);
-        let at = wide(places[j]);
+        let at = slot_place(slots, places, s, i);
         if is_fast(word_at(&words[at..])) {
             any = true;
             let third = at + 3;
@@ -73,7 +72,9 @@ pub(crate) fn lowest_uneven(
     places: &[u16; 4000],
 ) -> usize
     requires { ⌜ (states ≤ 1000) × ((s : ℕ) → s ≤ states → Leads (now words) (now slots) (now places) s (getD (now counts) s 0)) ⌝ }
-    ensures { λ r. ⌜ ((net : Net) → Through (now (words .entry)) (now (slots .entry)) (now (counts .entry)) (now (places .entry)) states net → r ≡ reading.lowest-uneven net states 1) ⌝ }
+    ensures { λ r. ⌜ ((net : Net)
+        → Through (now (words .entry)) (now (slots .entry)) (now (counts .entry)) (now (places .entry)) states net
+        → r ≡ reading.lowest-uneven net states 1) ⌝ }
 {
     let mut s = 1;
     while s <= states {

@@ -16,8 +16,7 @@ use crate::words::target;
 use crate::words::word_at;
 ghost use Prim.Native.Nat.{_≤_, _<_};
 ghost use mathlib.Core.Path.{_≡_};
-ghost use mathlib.Core.Logic.{_⊎_};
-ghost use lib.ListN.{length, getD};
+ghost use lib.ListN.{length};
 ghost use Rattle.model.specs.Words as fields;
 ghost use Rattle.model.specs.Parts as parts;
 
