@@ -13,7 +13,8 @@
  * Re-entrancy. There is no global and no thread-local state. Any number of threads may call at once, each with its own buffers, and may lend
  * the same words.
  *
- * Stack. A call needs at most BOUNDS_STACK bytes of stack, measured (tests/c/stack.c), not proved.
+ * Stack. A call needs at most BOUNDS_STACK bytes of stack: a quarter of a megabyte. That is measured, not proved: the tests run every call in a
+ * thread that has so much and what the thread itself needs (PTHREAD_STACK_MIN), and see what it used (tests/c/stack.c).
  *
  * Time. A call takes at most a fixed time for each word and each step, so the budget bounds it (docs/BENCHMARK.md).
  */
@@ -34,7 +35,7 @@ extern "C" {
 #define BOUNDS_MOST_BUDGET 1000000   /* a budget is from 1 to this */
 #define BOUNDS_WORDS_SIZE 16006      /* the words that bounds_words writes */
 #define BOUNDS_TEXT_SIZE 256         /* the bytes that bounds_text writes */
-#define BOUNDS_STACK 524288          /* the stack that a call needs at most, in bytes */
+#define BOUNDS_STACK 262144          /* the stack that a call needs at most, in bytes */
 
 /*
  * ---- Refusals

@@ -10,8 +10,8 @@
 //! The functions behind [`assess`], [`text`] and [`words_of`] are proved to give document 01's answer to every list of words and every budget.
 //! What this crate adds (its types, and how they print) is not proved; its tests compare it with the proved text.
 //!
-//! The library keeps no state and asks for no memory: any number of threads may call at once. A call needs at most half a megabyte of stack
-//! (`BOUNDS_STACK` in `include/bounds.h`), which is less than a thread of the standard library has.
+//! The library keeps no state and asks for no memory: any number of threads may call at once. A call needs at most [`STACK`] bytes of stack, which
+//! is less than a thread of the standard library has.
 
 mod double;
 mod figure;
@@ -29,3 +29,6 @@ pub const MOST_WORDS: usize = 16_005;
 
 /// The greatest budget that is allowed; the least is 1.
 pub const MOST_BUDGET: u64 = 1_000_000;
+
+/// The stack that a call needs at most, in bytes: measured, as `include/bounds.h` says, not proved.
+pub const STACK: usize = 262_144;

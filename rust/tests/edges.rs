@@ -1,6 +1,9 @@
 //! What no file of models has.
 
-use bounds::{Figure, Party, Reason, Refusal, MOST_BUDGET, MOST_WORDS};
+use std::error::Error;
+use std::thread::Builder;
+
+use bounds::{Figure, Party, Reason, Refusal, MOST_BUDGET, MOST_WORDS, STACK};
 
 const MODEL_A: [u32; 7] =
     [0x11002001, 0x2000000A, 0x30000000, 0x41801000, 0x50001002, 0x60400001, 0xF0000000];
@@ -39,10 +42,15 @@ fn bytes() {
     assert_eq!(bounds::words_of(&[0; 100_000]).len(), 16_006);
 }
 
-/// The header has the same numbers, groups and sentences.
+/// The header has the same sizes, numbers, groups and sentences.
 #[test]
 fn header() {
     let header = include_str!("../../include/bounds.h");
+    let sizes =
+        [("MOST_WORDS", MOST_WORDS as u64), ("MOST_BUDGET", MOST_BUDGET), ("STACK", STACK as u64)];
+    for (name, size) in sizes {
+        assert!(header.contains(&format!("#define BOUNDS_{name} {size} ")), "{name}");
+    }
     let (_, rest) = header.split_once("/* By the caller. */").expect("the first group");
     let (caller, rest) = rest.split_once("/* By whoever wrote the words. */").expect("the second");
     let (words, rest) = rest.split_once("/* By whoever drew the model. */").expect("the third");
@@ -69,8 +77,9 @@ fn shouted(name: &str) -> String {
     apart.collect()
 }
 
+/// In threads that have the stack that a call needs, and 64 kilobytes for what they do themselves.
 #[test]
-fn threads() {
+fn threads() -> Result<(), Box<dyn Error>> {
     let loops: [u32; 9] = [
         0x11002001, 0x2000000A, 0x30000000, 0x41818000, 0x50001002, 0x60300001, 0x50002001,
         0x60300001, 0xF0000000,
@@ -79,13 +88,14 @@ fn threads() {
     assert!(first.is_ok());
     std::thread::scope(|scope| {
         for _ in 0..4 {
-            scope.spawn(|| {
+            Builder::new().stack_size(STACK + 65_536).spawn_scoped(scope, || {
                 for _ in 0..500 {
                     assert_eq!(bounds::assess(&loops, MOST_BUDGET), first);
                 }
-            });
+            })?;
         }
-    });
+        Ok(())
+    })
 }
 
 /// The doubles lie on their sides: the shortest digits that Rust prints for each are compared with the figure by known values.
@@ -111,5 +121,32 @@ fn doubles() {
             assert!(nearest == below || nearest == above, "{digits} {power}");
             assert!(below == above || below.next_up() == above, "{digits} {power}");
         }
+    }
+}
+
+/// Figures that are no double and lie within 2^-84 of one, above it and below it; `tests/c/doubles.c` has more, and says how they were found.
+#[test]
+fn doubles_near() {
+    let above: [(u64, i32, u64); 5] = [
+        (175_150_874, -310, 0x014805c19e680456),
+        (420_526_983, -50, 0x375771f62f7c536b),
+        (989_648_089, -35, 0x3a8880a3d515e849),
+        (371_790_617, -25, 0x3c856ea93d1afbb0),
+        (245_540_327, 121, 0x5acc569e968e0944),
+    ];
+    for (digits, power, bits) in above {
+        let (figure, x) = (Figure { digits, power }, f64::from_bits(bits));
+        assert_eq!((figure.below(), figure.above()), (x, x.next_up()), "{digits} {power}");
+    }
+    let below: [(u64, i32, u64); 5] = [
+        (179_941_541, -304, 0x02878947479f53ad),
+        (971_212_611, -126, 0x27a397d3c9745d2f),
+        (161_110_172, -32, 0x3aff29ca0ff893b1),
+        (145_644_771, -14, 0x3eb86f653140a659),
+        (784_853_891, 229, 0x715348e02b28315a),
+    ];
+    for (digits, power, bits) in below {
+        let (figure, x) = (Figure { digits, power }, f64::from_bits(bits));
+        assert_eq!((figure.below(), figure.above()), (x.next_down(), x), "{digits} {power}");
     }
 }

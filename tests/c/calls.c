@@ -8,6 +8,7 @@
 #define _POSIX_C_SOURCE 200809L
 #include "models.h"
 #include <inttypes.h>
+#include <limits.h>
 #include <pthread.h>
 #include <unistd.h>
 
@@ -196,14 +197,20 @@ static void *same_again(void *unused)
     return NULL;
 }
 
+/* Each thread has the stack that a call needs, and what the thread itself needs. */
 static void check_threads(void)
 {
     pthread_t threads[4];
+    pthread_attr_t attributes;
+    pthread_attr_init(&attributes);
+    if (pthread_attr_setstacksize(&attributes, BOUNDS_STACK + PTHREAD_STACK_MIN) != 0)
+        fail("no stack", "calls at once");
     for (int i = 0; i < 4; i++)
-        if (pthread_create(&threads[i], NULL, same_again, NULL) != 0)
+        if (pthread_create(&threads[i], &attributes, same_again, NULL) != 0)
             fail("no thread", "calls at once");
     for (int i = 0; i < 4; i++)
         pthread_join(threads[i], NULL);
+    pthread_attr_destroy(&attributes);
 }
 
 int main(int count, char **arguments)

@@ -3,12 +3,16 @@
  *
  *     stack FILE..
  *
- * Each call runs in a thread whose stack was filled with a pattern; what the call has changed is what it needed. Fails above BOUNDS_STACK.
+ * Each call runs in a thread that has BOUNDS_STACK bytes of stack and what the thread itself needs. The stack was filled with a pattern; what the
+ * call has changed is what it needed. Fails above BOUNDS_STACK. Below the stack lie pages that cannot be touched, so that a call that goes far
+ * beyond it ends the program.
  */
 #include "models.h"
+#include <limits.h>
 #include <pthread.h>
+#include <sys/mman.h>
 
-enum { STACK = 1 << 20, PATTERN = 0xA5 };
+enum { STACK = BOUNDS_STACK + PTHREAD_STACK_MIN, GUARD = 1 << 20, PATTERN = 0xA5 };
 
 static uint8_t *stack;
 static uint32_t words[BOUNDS_WORDS_SIZE];
@@ -42,7 +46,7 @@ static void measure(void *function)
     pthread_join(thread, NULL);
     pthread_attr_destroy(&attributes);
     uint8_t *lowest = stack;
-    while (*lowest == PATTERN)
+    while (lowest < entered && *lowest == PATTERN)
         lowest++;
     size_t used = (size_t)(entered - lowest);
     most = used > most ? used : most;
@@ -89,8 +93,9 @@ static void measure_ring(int fast)
 int main(int arguments, char **files)
 {
     long models = 2;
-    if (posix_memalign((void **)&stack, 4096, STACK) != 0)
+    if (posix_memalign((void **)&stack, 4096, GUARD + STACK) != 0 || mprotect(stack, GUARD, PROT_NONE) != 0)
         fail("no memory", "stack");
+    stack += GUARD;
     measure_ring(0);
     measure_ring(1);
     for (int i = 1; i < arguments; i++)
