@@ -1,9 +1,9 @@
 -- From what `unreliability` and the text's functions promise to what the exported functions do. Assumes nothing.
 use Prim.Native.Nat.{ℕ}
-use mathlib.Core.Path.{_≡_, ap, sym, subst, _∙_}
+use mathlib.Core.Path.{_≡_, ap, subst, _∙_}
 use mathlib.Core.List.{List}
 use lib.IntN.{ℤ}
-use Rattle.tree.specs.Report.{values, answer}
+use Rattle.tree.specs.Report.{values}
 use Rattle.accuracy.specs.Rule.{AccuracyRule}
 use Rattle.bounds.specs.declared.Answer.{Answer}
 use Rattle.bounds.specs.Answers.{answer-of, Promised}
@@ -13,7 +13,9 @@ use Rattle.text.specs.Written.{Holds}
 use Rattle.embed.specs.Exports.{numbers-of, powers-of, Assessed, Texted}
 
 -- the numbers of the answer that the code has are those of the definition's
-pub assessed : {before after : List ℕ} {budget number : ℕ} {numbers : List ℕ} {powers : List ℤ} (a : Answer) → Promised before after budget a → number ≡ values (answer-of a) .number → numbers ≡ numbers-of (values (answer-of a)) → powers ≡ powers-of (values (answer-of a)) → Assessed before after budget number numbers powers
+pub assessed : {before after : List ℕ} {budget number : ℕ} {numbers : List ℕ} {powers : List ℤ} (a : Answer) → Promised before after budget a
+    → number ≡ values (answer-of a) .number → numbers ≡ numbers-of (values (answer-of a)) → powers ≡ powers-of (values (answer-of a))
+    → Assessed before after budget number numbers powers
 assessed {before} {budget = n} a p same-number same-numbers same-powers =
     record {
       number-is = same-number ∙ ap (λ v. v .number) (p .values-are);

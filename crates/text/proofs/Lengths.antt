@@ -1,6 +1,5 @@
 -- How long a text is: that of an answer has at most 256 bytes. Assumes nothing.
 use Prim.Native.Nat.{ℕ, suc, _+_, _/_, _≤_}
-use mathlib.Core.Path.{_≡_, refl, sym, ap, _∙_}
 use mathlib.Core.Bool.{Bool, true, false}
 use mathlib.Core.List.{List, [], _∷_, _++_}
 use native.Mathlib.Nat.{le-refl, le-trans}
@@ -11,9 +10,9 @@ use lib.IntN.{ℤ, pos, negsuc, _+ℤ_}
 use Rattle.figure.specs.declared.Figure.{Figure}
 use Rattle.model.specs.Reading.{Answer, refused, granted}
 use Rattle.tree.specs.Report.{Report}
-use Rattle.text.specs.Text.{ascii, decimal, digits-within, last-digits, signed-decimal, figure-text, line, figure-lines, count-lines, refusal-text, answer-text}
+use Rattle.text.specs.Text.{ascii, decimal, signed-decimal, figure-text, line, figure-lines, count-lines, refusal-text, answer-text}
 use Rattle.text.proofs.Digits.{length-last, length-digits}
-use Rattle.text.proofs.Figures.{first-digit, from-point, eight-digits, from-eight, from-E, from-exponent}
+use Rattle.text.proofs.Figures.{first-digit, from-point, eight-digits, from-E}
 
 length-exponent : (e : ℤ) → length (signed-decimal e) ≤ 21
 unfolding signed-decimal

@@ -38,7 +38,7 @@ digits-worth (suc most) n h = go (decLt n 10) (digits-worth most (n / 10) (more 
     go : Dec (n < 10) → worth (digits-within most (n / 10)) ≡ n / 10 → worth (digits-within (suc most) n) ≡ n
     go (yes l) e = ap worth (digits-one (suc most) n (omega arith) l) ∙ omega arith
     go (no g) e =
-        ap worth (digits-more (suc most) n (omega arith) (omega arith))
+        ap worth ((digits-more (suc most) n (omega arith) (omega arith)) .is)
         ∙ worth-snoc (digits-within (suc most - 1) (n / 10)) n
         ∙ ap (λ (k : ℕ). 10 * worth (digits-within k (n / 10)) + n % 10) (sub-one (suc most))
         ∙ omega (arith, e)
@@ -64,7 +64,7 @@ all-digits zero most n h l u = digits-one most n (omega (arith, h)) (omega (arit
 all-digits (suc k) most n h l u =
     let p : 0 < 10 ^ k = one-le-pow k 10 (zero-lt-suc 9) in
     let l′ : 10 * 10 ^ k ≤ n = rw pow-succ' at l in
-    digits-more most n (omega (arith, h)) (omega arith)
+    (digits-more most n (omega (arith, h)) (omega arith)) .is
     ∙ ap (λ (ds : List ℕ). ds ++ ((48 + n % 10) ∷ [])) (all-digits k (most - 1) (n / 10) (omega (arith, h)) (omega arith) (more (suc k) n u))
 
 pub figure-digits : (d : ℕ) → 10 ^ 8 ≤ d → d < 10 ^ 9 → last-digits 1 (d / 100000000) ++ last-digits 8 d ≡ decimal d

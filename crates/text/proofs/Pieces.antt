@@ -1,5 +1,5 @@
 -- Text that grows at its end: what is written piece by piece is written, and each piece has room where the whole has. Assumes nothing.
-use Prim.Native.Nat.{ℕ, suc, _+_, _≤_, _<_}
+use Prim.Native.Nat.{ℕ, _+_, _≤_, _<_}
 use mathlib.Core.Path.{_≡_, refl, sym, ap, _∙_}
 use mathlib.Core.List.{List, [], _∷_, _++_, append-nil, append-assoc}
 use native.Mathlib.Nat.{le-of-lt}
@@ -45,17 +45,37 @@ room-then xs ys m a = record { within = omega (arith, length-append xs ys, m .wi
 pub room-more : (xs : List ℕ) (i : ℕ) {t s : Text} → i < length xs → Room t xs → Added t (take i xs) s → Room s (getD xs i 0 ∷ [])
 room-more xs i h m a = record { within = omega (arith, length-take-le i xs (le-of-lt h), m .within, a .longer) }
 
+-- ---- a last byte, as a number's last digit is
+
+-- `all` are xs and behind them d
+pub record Ends (all xs : List ℕ) (d : ℕ) : Type 0 where
+  pub is : all ≡ xs ++ (d ∷ [])
+
+-- what the code writes last is b
+module _ {t : Text} {all xs : List ℕ} {d : ℕ} (e : Ends all xs d) where
+  pub room-before : Room t all → Room t xs
+  room-before m = room-first xs (d ∷ []) (rw (e .is) at m)
+
+  pub room-last : {s : Text} {b : ℕ} → b ≡ d → Room t all → Added t xs s → Room s (b ∷ [])
+  room-last same m a = rw same (room-then xs (d ∷ []) (rw (e .is) at m) a)
+
+  pub added-last : {s r : Text} {b : ℕ} → b ≡ d → Added t xs s → Added s (b ∷ []) r → Added t all r
+  added-last same a b = rw (e .is) (added-then a (rw same at b))
+
 -- ---- three pieces, as those of a line are: the label, what stands behind it, and the end
 
-module _ {t : Text} (xs ys zs : List ℕ) (m : Room t (xs ++ (ys ++ zs))) where
+pub record RoomForThree (t : Text) (xs ys zs : List ℕ) : Type 0 where
+  pub whole : Room t (xs ++ (ys ++ zs))
+
+module _ {t : Text} {xs ys zs : List ℕ} (m : RoomForThree t xs ys zs) where
   pub room-one : Room t xs
-  room-one = room-first xs (ys ++ zs) m
+  room-one = room-first xs (ys ++ zs) (m .whole)
 
   pub room-two : {s : Text} → Added t xs s → Room s ys
-  room-two a = room-first ys zs (room-then xs (ys ++ zs) m a)
+  room-two a = room-first ys zs (room-then xs (ys ++ zs) (m .whole) a)
 
   pub room-three : {s u : Text} → Added t xs s → Added s ys u → Room u zs
-  room-three a b = room-then ys zs (room-then xs (ys ++ zs) m a) b
+  room-three a b = room-then ys zs (room-then xs (ys ++ zs) (m .whole) a) b
 
 pub added-three : {t s u r : Text} {xs ys zs : List ℕ} → Added t xs s → Added s ys u → Added u zs r → Added t (xs ++ (ys ++ zs)) r
 added-three a b c = added-then a (added-then b c)

@@ -3,7 +3,7 @@ use crate::Text;
 use figure::Figure;
 ghost use Prim.Native.Nat.{_+_, _%_, _<_};
 ghost use mathlib.Core.Path.{_≡_};
-ghost use mathlib.Core.List.{[], _∷_, _++_};
+ghost use mathlib.Core.List.{[], _∷_};
 ghost use lib.IntN.{pos, natAbs, _+ℤ_};
 ghost use lib.Signed.{mag};
 ghost use Rattle.text.specs.Text.{digits-within, last-digits, signed-decimal, figure-text, line, decimal, figure-lines, count-lines, refusal-text};

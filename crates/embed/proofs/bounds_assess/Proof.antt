@@ -1,5 +1,5 @@
 -- `bounds_assess` meets its contract: the numbers of a refusal or of a report are those of the answer. Assumes nothing.
-use mathlib.Core.Path.{_≡_, refl, ap, subst}
+use mathlib.Core.Path.{refl, ap, subst}
 use mathlib.Core.List.{[], _∷_}
 use borrow.Author.Needs.{needs}
 use Rattle.bounds.specs.declared.Answer.the-variants.{Report as reported, Refused}
@@ -30,13 +30,15 @@ returns : tie.Need-returns
 returns c =
     let k = c .before .before .before .before .before in
     let f = k .a .given .0 .0 in
-    assessed (Refused f) (subst (Promised _ _ _) (k .a .given .1) (k .before .before .unreliability .ensures)) (c .number .ensures) (ap (λ x. x ∷ 0 ∷ 0 ∷ 0 ∷ 0 ∷ 0 ∷ 0 ∷ []) (c .before .before .before .place .ensures)) refl
+    assessed (Refused f) (subst (Promised _ _ _) (k .a .given .1) (k .before .before .unreliability .ensures)) (c .number .ensures)
+    (ap (λ x. x ∷ 0 ∷ 0 ∷ 0 ∷ 0 ∷ 0 ∷ 0 ∷ []) (c .before .before .before .place .ensures)) refl
 
 returns-2 : tie.Need-returns-2
 returns-2 c =
     let k = c .before .before .before .before in
     let r = k .a2 .given .0 .0 in
-    assessed (reported r) (subst (Promised _ _ _) (k .a2 .given .1) (k .before .before .unreliability .ensures)) refl (c .put-report .ensures .0) (c .put-report .ensures .1)
+    assessed (reported r) (subst (Promised _ _ _) (k .a2 .given .1) (k .before .before .unreliability .ensures)) refl
+    (c .put-report .ensures .0) (c .put-report .ensures .1)
 
 pub bounds-assess-spec : {M : Type 1} → statement M
 bounds-assess-spec =

@@ -1,11 +1,9 @@
 -- `text::Text::with_decimal` meets its contract, by induction on the greatest number of digits. Assumes nothing.
-use Prim.Native.Nat.{ℕ, _-_, _/_, _%_, _+_, _<_}
-use mathlib.Core.List.{[], _∷_}
+use Prim.Native.Nat.{ℕ, _<_}
 use native.Mathlib.Omega.{arith}
 use borrow.Fn.Kinds.{In}
 use borrow.Fn.PlainCycle.{Measures, is, falls, and}
-use Rattle.text.specs.Text.{digits-within}
-use Rattle.text.proofs.Pieces.{added-none, added-then, room-first, room-then}
+use Rattle.text.proofs.Pieces.{added-none, room-before, room-last, added-last}
 use Rattle.text.proofs.Digits.{digits-none, digits-one, digits-more}
 use Rattle.text.proofs.Text.with_decimal.Reads as reads
 use Rattle.text.proofs.Text.with_decimal.Kinds as kinds
@@ -56,8 +54,7 @@ sub-most t c = omega arith
 with-decimal-requires : (t : ℕ) → lts.Need-with-decimal-requires (claims t) (here t) reads.Post
 with-decimal-requires t c κs =
     let s = c .before .before in
-    let a = s .args in
-    (omega (arith, s .pre .0), room-first (digits-within (a .most - 1) (a .n / 10)) ((48 + a .n % 10) ∷ []) (rw (digits-more (a .most) (a .n) (omega arith) (omega arith)) at (s .pre .1)))
+    (omega (arith, s .pre .0), room-before (digits-more (s .args .most) (s .args .n) (omega arith) (omega arith)) (s .pre .1))
 
 digit-requires-2 : (t : ℕ) → lts.Need-digit-requires-2 (claims t) (here t) reads.Post
 digit-requires-2 t c κs = tt
@@ -65,17 +62,13 @@ digit-requires-2 t c κs = tt
 with-requires-2 : (t : ℕ) → lts.Need-with-requires-2 (claims t) (here t) reads.Post
 with-requires-2 t c κs =
     let s = c .before .before .before .before in
-    let a = s .args in
-    rw (c .digit2 .ensures)
-    (room-then (digits-within (a .most - 1) (a .n / 10)) ((48 + a .n % 10) ∷ [])
-    (rw (digits-more (a .most) (a .n) (omega arith) (omega arith)) at (s .pre .1))
-    (c .before .with-decimal .ensures))
+    room-last (digits-more (s .args .most) (s .args .n) (omega arith) (omega arith)) (c .digit2 .ensures) (s .pre .1) (c .before .with-decimal .ensures)
 
 returns-3 : (t : ℕ) → lts.Need-returns-3 (claims t) (here t) reads.Post
 returns-3 t c =
     let a = c .before .before .before .before .before .args in
-    rw (digits-more (a .most) (a .n) (omega arith) (omega arith))
-    (added-then (c .before .before .with-decimal .ensures) (rw (c .before .digit2 .ensures) at (c .with2 .ensures)))
+    added-last (digits-more (a .most) (a .n) (omega arith) (omega arith))
+    (c .before .digit2 .ensures) (c .before .before .with-decimal .ensures) (c .with2 .ensures)
 
 pub +with-decimal-spec : {M : Type 1} → statement M
 +with-decimal-spec =

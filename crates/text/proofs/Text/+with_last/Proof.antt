@@ -1,13 +1,9 @@
 -- `text::Text::with_last` meets its contract, by induction on the number of digits. Assumes nothing.
-use Prim.Native.Nat.{ℕ, _-_, _/_, _%_, _+_, _<_}
-use mathlib.Core.Path.{_≡_, sym}
-use mathlib.Core.List.{[], _∷_}
+use Prim.Native.Nat.{ℕ, _<_}
 use native.Mathlib.Omega.{arith}
 use borrow.Fn.Kinds.{In}
 use borrow.Fn.PlainCycle.{Measures, is, falls, and}
-use Rattle.text.specs.Text.{last-digits}
-use Rattle.text.specs.Written.{Added, Room}
-use Rattle.text.proofs.Pieces.{added-none, added-then, room-first, room-then}
+use Rattle.text.proofs.Pieces.{added-none, room-before, room-last, added-last}
 use Rattle.text.proofs.Digits.{last-none, last-more}
 use Rattle.text.proofs.Text.with_last.Reads as reads
 use Rattle.text.proofs.Text.with_last.Kinds as kinds
@@ -31,17 +27,15 @@ abbrev claims : ℕ → lts.Claims
 claims t = (below t, reads.Post, digit-reads.Asked, digit-reads.Learnt, with-reads.Asked, with-reads.Learnt)
 
 returns : (t : ℕ) → lts.Need-returns (claims t) (here t) reads.Post
-returns t c =
-    let a = c .before .args in
-    rw (c .if1 .taken, last-none) (added-none (a .self))
+returns t c = rw (c .if1 .taken, last-none) (added-none (c .before .args .self))
 
 sub-k : (t : ℕ) → lts.Need-sub-with-last (claims t) (here t) reads.Post
 sub-k t c = omega arith
 
 with-last-requires : (t : ℕ) → lts.Need-with-last-requires (claims t) (here t) reads.Post
 with-last-requires t c κs =
-    let a = c .before .args in
-    (omega (arith, c .before .pre .0), room-first (last-digits (a .k - 1) (a .n / 10)) ((48 + a .n % 10) ∷ []) (rw (last-more (a .k) (a .n) (omega arith)) at (c .before .pre .1)))
+    let s = c .before in
+    (omega (arith, s .pre .0), room-before (last-more (s .args .k) (s .args .n) (omega arith)) (s .pre .1))
 
 digit-requires : (t : ℕ) → lts.Need-digit-requires (claims t) (here t) reads.Post
 digit-requires t c κs = tt
@@ -49,16 +43,12 @@ digit-requires t c κs = tt
 with-requires : (t : ℕ) → lts.Need-with-requires (claims t) (here t) reads.Post
 with-requires t c κs =
     let s = c .before .before .before in
-    let a = s .args in
-    rw (c .digit .ensures)
-    (room-then (last-digits (a .k - 1) (a .n / 10)) ((48 + a .n % 10) ∷ [])
-    (rw (last-more (a .k) (a .n) (omega arith)) at (s .pre .1))
-    (c .before .with-last .ensures))
+    room-last (last-more (s .args .k) (s .args .n) (omega arith)) (c .digit .ensures) (s .pre .1) (c .before .with-last .ensures)
 
 returns-2 : (t : ℕ) → lts.Need-returns-2 (claims t) (here t) reads.Post
 returns-2 t c =
     let a = c .before .before .before .before .args in
-    rw (last-more (a .k) (a .n) (omega arith)) (added-then (c .before .before .with-last .ensures) (rw (c .before .digit .ensures) at (c .with .ensures)))
+    added-last (last-more (a .k) (a .n) (omega arith)) (c .before .digit .ensures) (c .before .before .with-last .ensures) (c .with .ensures)
 
 pub +with-last-spec : {M : Type 1} → statement M
 +with-last-spec =

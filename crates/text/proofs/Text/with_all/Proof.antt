@@ -9,9 +9,6 @@ use Rattle.text.specs.Written.{Added}
 use Rattle.text.proofs.Pieces.{added-none, added-more, room-more}
 use Rattle.text.proofs.Text.with_all.Statement.{statement}
 use Rattle.text.proofs.Text.with_all.Tie as tie
-use Rattle.text.proofs.Text.with_all.Reads as reads
-use Rattle.text.proofs.Text.with_all.Lts as lts
-use Rattle.text.proofs.Text.with.Reads as with-reads
 
 abbrev Inv-loop : tie.InvT-loop
 Inv-loop more t₀ i₀ t i = (i ≤ length more) × Added t₀ (take i more) t

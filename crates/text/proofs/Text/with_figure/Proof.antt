@@ -7,7 +7,6 @@ use lib.IntN.{ℤ, pos, _+ℤ_}
 use mir.Syntax.{w32}
 use mir.Val.{SFits}
 use mir.Facts.{toZ-ofZ}
-use Rattle.figure.specs.declared.Figure.{Figure}
 use Rattle.text.specs.Written.{Room}
 use Rattle.text.proofs.Pieces.{added-then, room-first, room-then}
 use Rattle.text.proofs.Signed.{stored, stored-is}
@@ -34,20 +33,26 @@ exponent-is c =
     let f : SFits w32 (c .before .before .before .args .f .power) = record { sfits = omega (arith, c .before .struct-told .given) } in
     stored-is _ (c .exponent .ensures .1) ∙ c .exponent .ensures .0 ∙ ap (λ (z : ℤ). z +ℤ pos 8) (toZ-ofZ f)
 
-room-first-digit : (c : tie.After-exponent) → let f = c .before .before .before .args .f in Room (c .before .before .before .args .self) (first-digit f ++ from-point f)
+room-first-digit : (c : tie.After-exponent) → let a = c .before .before .before .args in Room (a .self) (first-digit (a .f) ++ from-point (a .f))
 room-first-digit c = rw (some-text (c .before .before .before .args .f) (c .before .before .if1 .left)) at (c .before .before .before .pre)
 
 room-point : (c : tie.After-with-last) → Room (c .with-last .result) (from-point (c .before .before .before .before .args .f))
-room-point c = let f = c .before .before .before .before .args .f in room-then (first-digit f) (from-point f) (room-first-digit (c .before)) (c .with-last .ensures)
+room-point c =
+    let f = c .before .before .before .before .args .f in
+    room-then (first-digit f) (from-point f) (room-first-digit (c .before)) (c .with-last .ensures)
 
 room-eight : (c : tie.After-with2) → Room (c .with2 .result) (from-eight (c .before .before .before .before .before .args .f))
 room-eight c = room-then (46 ∷ []) (from-eight (c .before .before .before .before .before .args .f)) (room-point (c .before)) (c .with2 .ensures)
 
 room-E : (c : tie.After-with-last2) → Room (c .with-last2 .result) (from-E (c .before .before .before .before .before .before .args .f))
-room-E c = let f = c .before .before .before .before .before .before .args .f in room-then (eight-digits f) (from-E f) (room-eight (c .before)) (c .with-last2 .ensures)
+room-E c =
+    let f = c .before .before .before .before .before .before .args .f in
+    room-then (eight-digits f) (from-E f) (room-eight (c .before)) (c .with-last2 .ensures)
 
 room-exponent : (c : tie.After-with3) → Room (c .with3 .result) (from-exponent (c .before .before .before .before .before .before .before .args .f))
-room-exponent c = room-then (69 ∷ []) (from-exponent (c .before .before .before .before .before .before .before .args .f)) (room-E (c .before)) (c .with3 .ensures)
+room-exponent c =
+    let f = c .before .before .before .before .before .before .before .args .f in
+    room-then (69 ∷ []) (from-exponent f) (room-E (c .before)) (c .with3 .ensures)
 
 with-last-requires : tie.Need-with-last-requires
 with-last-requires c κs = let f = c .before .before .before .args .f in room-first (first-digit f) (from-point f) (room-first-digit c)

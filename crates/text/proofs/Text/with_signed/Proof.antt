@@ -1,7 +1,6 @@
 -- `text::Text::with_signed` meets its contract: the minus sign where there is one, and the size. Assumes nothing.
-use Prim.Native.Nat.{ℕ}
 use mathlib.Core.List.{[], _∷_}
-use lib.IntN.{ℤ, natAbs}
+use lib.IntN.{natAbs}
 use borrow.Author.Needs.{needs}
 use Rattle.text.specs.Text.{decimal}
 use Rattle.text.specs.Written.{Room}
@@ -25,13 +24,15 @@ size-requires c κs = search needs
 with-decimal-requires : tie.Need-with-decimal-requires
 with-decimal-requires c κs =
     let b = c .before .before in
-    rw (c .size .ensures, stored-is (b .before .args .e) (b .before .pre .0)) (room-then (45 ∷ []) (decimal (natAbs (b .before .args .e))) (room b) (c .before .with .ensures))
+    let s = b .before in
+    rw (c .size .ensures, stored-is (s .args .e) (s .pre .0)) (room-then (45 ∷ []) (decimal (natAbs (s .args .e))) (room b) (c .before .with .ensures))
 
 returns : tie.Need-returns
 returns c =
     let b = c .before .before .before in
-    rw (with-minus (b .before .args .e) (b .before .pre .0) (b .if1 .taken))
-    (added-then (c .before .before .with .ensures) (rw (c .before .size .ensures, stored-is (b .before .args .e) (b .before .pre .0)) at (c .with-decimal .ensures)))
+    let s = b .before in
+    rw (with-minus (s .args .e) (s .pre .0) (b .if1 .taken))
+    (added-then (c .before .before .with .ensures) (rw (c .before .size .ensures, stored-is (s .args .e) (s .pre .0)) at (c .with-decimal .ensures)))
 
 -- from zero on
 
@@ -40,13 +41,15 @@ size-requires-2 c κs = search needs
 
 with-decimal-requires-2 : tie.Need-with-decimal-requires-2
 with-decimal-requires-2 c κs =
-    let b = c .before in
-    rw (c .size2 .ensures, stored-is (b .before .args .e) (b .before .pre .0)) (rw (without-minus (b .before .args .e) (b .before .pre .0) (b .if1 .left)) at (b .before .pre .1))
+    let s = c .before .before in
+    rw (c .size2 .ensures, stored-is (s .args .e) (s .pre .0)) (rw (without-minus (s .args .e) (s .pre .0) (c .before .if1 .left)) at (s .pre .1))
 
 returns-2 : tie.Need-returns-2
 returns-2 c =
     let b = c .before .before in
-    rw (without-minus (b .before .args .e) (b .before .pre .0) (b .if1 .left)) (rw (c .before .size2 .ensures, stored-is (b .before .args .e) (b .before .pre .0)) at (c .with-decimal2 .ensures))
+    let s = b .before in
+    rw (without-minus (s .args .e) (s .pre .0) (b .if1 .left))
+    (rw (c .before .size2 .ensures, stored-is (s .args .e) (s .pre .0)) at (c .with-decimal2 .ensures))
 
 pub with-signed-spec : {M : Type 1} → statement M
 with-signed-spec =

@@ -2,9 +2,8 @@
 use mathlib.Core.List.{[], _∷_}
 use borrow.Author.Needs.{needs}
 use Rattle.model.specs.Reading.{refused}
-use Rattle.text.specs.Text.{ascii, refusal-text, answer-text, line}
-use Rattle.text.specs.Written.{Room}
-use Rattle.text.proofs.Pieces.{added-three, room-one, room-two, room-three, room-all, holds-all}
+use Rattle.text.specs.Text.{ascii, refusal-text, answer-text}
+use Rattle.text.proofs.Pieces.{RoomForThree, added-three, room-one, room-two, room-three, room-all, holds-all}
 use Rattle.text.proofs.Lengths.{answer-short}
 use Rattle.text.proofs.answers.numbered.Statement.{statement}
 use Rattle.text.proofs.answers.numbered.Tie as tie
@@ -12,29 +11,21 @@ use Rattle.text.proofs.answers.numbered.Tie as tie
 empty-requires : tie.Need-empty-requires
 empty-requires c κs = search needs
 
-room : (c : tie.After-empty) → Room (c .empty .result) (line (ascii "refused ") (refusal-text (c .before .args .number) (c .before .args .place)))
+room : (c : tie.After-empty) → let a = c .before .args in RoomForThree (c .empty .result) (ascii "refused ") (refusal-text (a .number) (a .place)) (10 ∷ [])
 unfolding answer-text
-room c = room-all (c .empty .ensures) (answer-short (refused (c .before .args .number) (c .before .args .place)))
+room c = record { whole = room-all (c .empty .ensures) (answer-short (refused (c .before .args .number) (c .before .args .place))) }
 
 slice-aggregate-with-all : tie.Need-slice-aggregate-with-all
 slice-aggregate-with-all c = search needs
 
 with-all-requires : tie.Need-with-all-requires
-with-all-requires c κs =
-    let a = c .before .before .args in
-    room-one (ascii "refused ") (refusal-text (a .number) (a .place)) (10 ∷ []) (room (c .before))
+with-all-requires c κs = room-one (room (c .before))
 
 with-refusal-requires : tie.Need-with-refusal-requires
-with-refusal-requires c κs =
-    let b = c .before .before in
-    let a = b .before .args in
-    room-two (ascii "refused ") (refusal-text (a .number) (a .place)) (10 ∷ []) (room b) (c .with-all .ensures)
+with-refusal-requires c κs = room-two (room (c .before .before)) (c .with-all .ensures)
 
 with-requires : tie.Need-with-requires
-with-requires c κs =
-    let b = c .before .before .before in
-    let a = b .before .args in
-    room-three (ascii "refused ") (refusal-text (a .number) (a .place)) (10 ∷ []) (room b) (c .before .with-all .ensures) (c .with-refusal .ensures)
+with-requires c κs = room-three (room (c .before .before .before)) (c .before .with-all .ensures) (c .with-refusal .ensures)
 
 returns : tie.Need-returns
 unfolding answer-text

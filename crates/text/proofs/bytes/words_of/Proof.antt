@@ -19,7 +19,9 @@ slice-aggregate-fill : tie.Need-slice-aggregate-fill
 slice-aggregate-fill c = sym (length-take-le 64024 (c .before .before .before .before .args .bytes .now) (omega arith))
 
 fill-requires-2 : tie.Need-fill-requires-2
-fill-requires-2 c κs = (le-of-eq (length-take-le 64024 (c .before .before .before .before .before .args .bytes .now) (omega arith)), length-replicate {A = ℕ} 16006 0)
+fill-requires-2 c κs =
+    let bytes = c .before .before .before .before .before .args .bytes .now in
+    (le-of-eq (length-take-le 64024 bytes (omega arith)), length-replicate {A = ℕ} 16006 0)
 
 returns-2 : tie.Need-returns-2
 returns-2 c = search needs
