@@ -33,17 +33,17 @@ use Rattle.bounds.proofs.PathLowers.{path-length, SpentOn, Multiplied, 
 
 -- ---- the cases of the lower
 
-module _ (c : Shared) (x : ℕ) (s f : Figure) (k : ℕ) where
-  pub lower-filled : c .filled ≡ true → death-lower c x s f k ≡ none
+module _ (c : Shared) (x : ℕ) (s f n : Figure) where
+  pub lower-filled : c .filled ≡ true → death-lower c x s f n ≡ none
   unfolding death-lower
   lower-filled e = rw (e, death-lower)
 
   pub lower-one : c .filled ≡ false → x ≡ 1
-      → death-lower c x s f k ≡ times-down (divided-down (times-down (times-down (c .product) s) (c .time)) (of-whole k)) (c .last)
+      → death-lower c x s f n ≡ times-down (divided-down (times-down (times-down (c .product) s) (c .time)) n) (c .last)
   unfolding death-lower
   lower-one e h = rw (e, eq-eqb x 1 h, death-lower)
 
-  pub lower-other : c .filled ≡ false → (x ≡ 1 → ⊥) → death-lower c x s f k ≡ times-down (times-down (c .product) f) (c .last)
+  pub lower-other : c .filled ≡ false → (x ≡ 1 → ⊥) → death-lower c x s f n ≡ times-down (times-down (c .product) f) (c .last)
   unfolding death-lower
   lower-other e h = rw (e, ne-eqb x 1 h, death-lower)
 
@@ -118,7 +118,7 @@ module _ {net : Net} (t : Transition) {p : Path} {c : Shared} where
 
   -- the lower of the path with its last step; k counts if that is of class 1
   pub death-is : {k : ℕ} → SharedBy net p (class net t) (grains net [] t) (t .from) c → (class net t ≡ class1 → k ≡ class1-count net (t ∷ p))
-      → death-lower c (class-number (class net t)) (share (t .manner)) (step-factor net (class net t) t) k ≡ lower net (t ∷ p)
+      → death-lower c (class-number (class net t)) (share (t .manner)) (step-factor net (class net t) t) (of-whole k) ≡ lower net (t ∷ p)
   death-is {k} shared count = go (c .filled) refl
     where
       s : SharedOn net t p c
@@ -141,22 +141,22 @@ module _ {net : Net} (t : Transition) {p : Path} {c : Shared} where
       one e h = let m = multiplied-one t (so-far e) h refl in rw (s .time-is e, count h ∙ sym (m .ones-are)) (m .product-is)
 
       other : c .filled ≡ false → (class net t ≡ class1 → ⊥)
-          → death-lower c (class-number (class net t)) (share (t .manner)) (step-factor net (class net t) t) k
+          → death-lower c (class-number (class net t)) (share (t .manner)) (step-factor net (class net t) t) (of-whole k)
           ≡ times-down (lower-product net (own-grains net) time (t ∷ p)) (c .last)
       other e h =
-          lower-other c _ _ _ k e (λ n. h (number-one _ n))
+          lower-other c _ _ _ _ e (λ n. h (number-one _ n))
           ∙ ap (λ (f : Figure). times-down f (c .last)) ((multiplied-other t (so-far e) h refl) .product-is)
 
       by-class : (x : Class) → class net t ≡ x → c .filled ≡ false
-          → death-lower c (class-number (class net t)) (share (t .manner)) (step-factor net (class net t) t) k
+          → death-lower c (class-number (class net t)) (share (t .manner)) (step-factor net (class net t) t) (of-whole k)
           ≡ times-down (lower-product net (own-grains net) time (t ∷ p)) (c .last)
-      by-class class1 h e = lower-one c _ _ _ k e (ap class-number h) ∙ ap (λ (f : Figure). times-down f (c .last)) (one e h)
+      by-class class1 h e = lower-one c _ _ _ _ e (ap class-number h) ∙ ap (λ (f : Figure). times-down f (c .last)) (one e h)
       by-class class2 h e = other e (λ f. absurd (omega (arith, ap class-number (sym h ∙ f))))
       by-class class3 h e = other e (λ f. absurd (omega (arith, ap class-number (sym h ∙ f))))
 
       go : (b : Bool) → c .filled ≡ b
-          → death-lower c (class-number (class net t)) (share (t .manner)) (step-factor net (class net t) t) k ≡ lower net (t ∷ p)
-      go true e = lower-filled c _ _ _ k e ∙ sym (own ∙ lower-full net (own-grains net) (t ∷ p) (leb-true 1000000 N (sym (s .filled-is) ∙ e)))
+          → death-lower c (class-number (class net t)) (share (t .manner)) (step-factor net (class net t) t) (of-whole k) ≡ lower net (t ∷ p)
+      go true e = lower-filled c _ _ _ _ e ∙ sym (own ∙ lower-full net (own-grains net) (t ∷ p) (leb-true 1000000 N (sym (s .filled-is) ∙ e)))
       go false e =
           by-class (class net t) refl e ∙ ap (times-down (lower-product net (own-grains net) time (t ∷ p))) (s .last-is e ∙ last-same net N (t ∷ p))
           ∙ sym (own ∙ lower-else net (own-grains net) (t ∷ p) (leb-false 1000000 N (sym (s .filled-is) ∙ e)))
@@ -194,8 +194,8 @@ module _ {ws places means l : List ℕ} {d k x s j : ℕ} (classed : Classed ws 
   length-high = omega (arith, path-length net l d, last .room)
 
   -- the lower that the code works out for the path with its last step
-  pub death-at : {c : Shared} {r f g : Figure} → SharedBy net (path-of net l d) (class net step) (grains net [] step) s c
-      → f ≡ share (step .manner) → g ≡ step-factor net (class net step) step → r ≡ death-lower c x f g (k + 1)
+  pub death-at : {c : Shared} {r f g n : Figure} → SharedBy net (path-of net l d) (class net step) (grains net [] step) s c
+      → f ≡ share (step .manner) → g ≡ step-factor net (class net step) step → n ≡ of-whole (k + 1) → r ≡ death-lower c x f g n
       → r ≡ lower net (step ∷ path-of net l d)
-  death-at shared f-is g-is r-is =
-      rw (r-is, f-is, g-is, last .class-is) (death-is step (rw (last .leaves) at shared) (λ h. count-one (last .class-is ∙ ap class-number h)))
+  death-at shared f-is g-is n-is r-is =
+      rw (r-is, f-is, g-is, n-is, last .class-is) (death-is step (rw (last .leaves) at shared) (λ h. count-one (last .class-is ∙ ap class-number h)))

@@ -77,6 +77,9 @@ module _ {ws slots counts places shares grain-counts factors rates means : List 
   pub steps-valid : ValidSteps (path-of net l (tip .len))
   steps-valid = path-valid valid l (tip .len) (ready .known)
 
+  pub ones-few : tip .ones < 24
+  ones-few = omega (arith, ready .carries .ones, class1-count-≤ net (path-of net l (tip .len)), path-short)
+
   -- ---- the exits of its last state
 
   count-is : getD counts (tip .state) 0 ≡ length (exits net (tip .state))
@@ -94,7 +97,7 @@ module _ {ws slots counts places shares grain-counts factors rates means : List 
     index = slot-below (described ws) ws slots counts places valid (ready .indexes .index) (tip .state) i small h;
     leaves = slot-leaves (described ws) ws slots counts places valid (ready .indexes .index) (tip .state) i small h;
     upper = rw (ready .carries .upper) (sized-≤ (lit≤ tt) (any-upper-sized valid (path-of net l (tip .len)) (omega (arith, path-short)) steps-valid));
-    ones = omega (arith, ready .carries .ones, class1-count-≤ net (path-of net l (tip .len)), path-short);
+    ones = ones-few;
     room = room;
   }
     where

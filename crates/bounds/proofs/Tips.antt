@@ -31,32 +31,32 @@ module _ {u s : Figure} (upper : Sized 9 20000 u) (small : Sized 9 1000 s) {a : 
 pub small-operand : {f : Figure} → Sized 9 1000 f → Operand 9 f
 small-operand h = sized-≤ (lit≤ tt) h
 
-pub divisor : (k : ℕ) {f : Figure} → 0 < k → k ≤ 24 → f ≡ of-whole k → Operand 9 f × (0 < f .digits)
+pub divisor : (k : ℕ) {f : Figure} → 0 < k → k ≤ 24 → f ≡ of-whole k → Sized 9 2000 f × (0 < f .digits)
 divisor k low high e = rw e (sized-≤ (lit≤ tt) (count-sized k (le-trans high (lit≤ tt))), of-whole-above k low)
 
-module _ (x k : ℕ) (u s m t : Figure) where
-  pub upper-first : x ≡ 1 → upper-by x k u s m t ≡ divided-up (times-up (times-up u s) t) (of-whole k)
+module _ (x : ℕ) (n u s m t : Figure) where
+  pub upper-first : x ≡ 1 → upper-by x n u s m t ≡ divided-up (times-up (times-up u s) t) n
   unfolding upper-by
   upper-first e = rw (eq-eqb x 1 e, upper-by)
 
-  pub upper-second : (x ≡ 1 → ⊥) → x ≡ 2 → upper-by x k u s m t ≡ times-up u s
+  pub upper-second : (x ≡ 1 → ⊥) → x ≡ 2 → upper-by x n u s m t ≡ times-up u s
   unfolding upper-by
   upper-second h e = rw (ne-eqb x 1 h, eq-eqb x 2 e, upper-by)
 
-  pub upper-third : (x ≡ 1 → ⊥) → (x ≡ 2 → ⊥) → upper-by x k u s m t ≡ times-up (times-up u s) m
+  pub upper-third : (x ≡ 1 → ⊥) → (x ≡ 2 → ⊥) → upper-by x n u s m t ≡ times-up (times-up u s) m
   unfolding upper-by
   upper-third h e = rw (ne-eqb x 1 h, ne-eqb x 2 e, upper-by)
 
 -- ---- the tip
 
-module _ (tip : Tip) (x to : ℕ) (s m t : Figure) {u : Figure} (is : u ≡ upper-by x (tip .ones + 1) (tip .upper) s m t) where
+module _ (tip : Tip) (x to : ℕ) (s m t : Figure) {n u : Figure} (nth : n ≡ of-whole (tip .ones + 1)) (is : u ≡ upper-by x n (tip .upper) s m t) where
   pub tip-first : x ≡ 1 → _≡_ {A = Tip} (record { state = to; upper = u; ones = tip .ones + 1; len = tip .len + 1 }) (tip-by tip x to s m t)
   unfolding tip-by
-  tip-first e = rw (is, eq-eqb x 1 e, tip-by)
+  tip-first e = rw (is, nth, eq-eqb x 1 e, tip-by)
 
   pub tip-other : (x ≡ 1 → ⊥) → _≡_ {A = Tip} (record { state = to; upper = u; ones = tip .ones; len = tip .len + 1 }) (tip-by tip x to s m t)
   unfolding tip-by
-  tip-other e = rw (is, ne-eqb x 1 e, tip-by)
+  tip-other e = rw (is, nth, ne-eqb x 1 e, tip-by)
 
 -- by a transition's class, state, share, h and T, the tip is the definition's
 pub tip-by-transition : (net : Net) (t : Transition) (tip : Tip)

@@ -71,11 +71,11 @@ pub record SharedSized (c : Shared) : Type 0 where
   pub product : Sized 9 30000 (c .product)
   pub last : Sized 9 2000 (c .last)
 
--- the lower of a death path: by the number of its last step's class, with that step's share and factor; k is its number among class 1 steps if it
+-- the lower of a death path: by the number of its last step's class, with that step's share and factor; n is its number among class 1 steps if it
 -- is one
-unfoldable pub death-lower : Shared → ℕ → Figure → Figure → ℕ → Figure
-death-lower c x s f k =
+unfoldable pub death-lower : Shared → ℕ → Figure → Figure → Figure → Figure
+death-lower c x s f n =
     elim (c .filled) [
       | true ↦ none
-      | false ↦ elim (eqb x 1) [ true ↦ times-down (divided-down (times-down (times-down (c .product) s) (c .time)) (of-whole k)) (c .last) | false ↦ times-down (times-down (c .product) f) (c .last) ]
+      | false ↦ elim (eqb x 1) [ true ↦ times-down (divided-down (times-down (times-down (c .product) s) (c .time)) n) (c .last) | false ↦ times-down (times-down (c .product) f) (c .last) ]
     ]

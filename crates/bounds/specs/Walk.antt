@@ -46,11 +46,11 @@ pub record TaskOf (m : Model) (t : Task) : Type 0 where
   pub entries-are : t .entries ≡ m .limits .entries
   pub budget-high : t .budget ≤ 1000000
 
--- U one step further, by the number of the step's class, its number k among class 1 steps, its share, h and T
-unfoldable pub upper-by : ℕ → ℕ → Figure → Figure → Figure → Figure → Figure
-upper-by x k u share mean time =
+-- U one step further, by the number of the step's class, its number n among class 1 steps, its share, h and T
+unfoldable pub upper-by : ℕ → Figure → Figure → Figure → Figure → Figure → Figure
+upper-by x n u share mean time =
     elim (eqb x 1) [
-      | true ↦ divided-up (times-up (times-up u share) time) (of-whole k)
+      | true ↦ divided-up (times-up (times-up u share) time) n
       | false ↦ elim (eqb x 2) [ true ↦ times-up u share | false ↦ times-up (times-up u share) mean ]
     ]
 
@@ -59,7 +59,7 @@ unfoldable pub tip-by : Tip → ℕ → ℕ → Figure → Figure → Figure →
 tip-by tip x to share mean time =
     record {
       state = to;
-      upper = upper-by x (tip .ones + 1) (tip .upper) share mean time;
+      upper = upper-by x (of-whole (tip .ones + 1)) (tip .upper) share mean time;
       ones = elim (eqb x 1) [ true ↦ tip .ones + 1 | false ↦ tip .ones ];
       len = tip .len + 1;
     }

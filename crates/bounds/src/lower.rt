@@ -245,10 +245,10 @@ pub(crate) fn shared_by(
     )
 }
 
-// The lower of a death path whose last step is of a class, with its share and factor; k is its number among class 1 steps if it is one.
-pub(crate) fn lower_of(c: Shared, class: u8, share: Figure, factor: Figure, k: u64) -> Figure
-    requires { ⌜ SharedSized c × Sized 9 2000 share × Sized 9 2000 factor × (0 < k) × (k ≤ 24) ⌝ }
-    ensures { λ r. ⌜ r ≡ death-lower c class share factor k ⌝ }
+// The lower of a death path whose last step is of a class, with its share and factor; it is the nth of class 1 if it is of class 1.
+pub(crate) fn lower_of(c: Shared, class: u8, share: Figure, factor: Figure, nth: Figure) -> Figure
+    requires { ⌜ SharedSized c × Sized 9 2000 share × Sized 9 2000 factor × Sized 9 2000 nth × (0 < nth .digits) ⌝ }
+    ensures { λ r. ⌜ r ≡ death-lower c class share factor nth ⌝ }
 {
     if c.filled {
         return Figure::zero();
@@ -259,7 +259,7 @@ pub(crate) fn lower_of(c: Shared, class: u8, share: Figure, factor: Figure, k: u
     if class == 1 {
         return p.times_down(share)
             .times_down(t)
-            .divided_down(Figure::of_whole(k))
+            .divided_down(nth)
             .times_down(last);
     }
     p.times_down(factor).times_down(last)

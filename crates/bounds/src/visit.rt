@@ -1,9 +1,10 @@
 // One visit of the walk: what becomes of a path, and the totals with it.
 ghost use mathlib.Core.Path.{_≡_};
 ghost use mathlib.Core.List.{[], _∷_};
-ghost use Prim.Native.Nat.{ℕ, _<_, _≤_};
+ghost use Prim.Native.Nat.{ℕ, _+_, _<_, _≤_};
 ghost use Rattle.figure.specs.Rounding.{IsFigure};
 ghost use Rattle.figure.specs.Operands.{Sized};
+ghost use Rattle.figure.specs.Operations as ops;
 ghost use Rattle.model.specs.Model.{Net};
 ghost use Rattle.model.specs.Index.{transition};
 ghost use Rattle.tree.specs.Paths.{Path};
@@ -196,7 +197,8 @@ fn shared_for(
     )
 }
 
-// The lower of a death path with that last step, and the cache after it: what a slow exit's deaths share is worked out for the first of them and kept.
+// The lower of a death path with that last step, the nth of class 1 if it is of class 1, and the cache after it: what a slow exit's deaths share is
+// worked out for the first of them and kept.
 pub(crate) fn death(
     words: &[u32],
     places: &[u16; 4000],
@@ -209,6 +211,7 @@ pub(crate) fn death(
     path: [u16; 24],
     len: usize,
     k: u64,
+    nth: Figure,
     class: u8,
     s: usize,
     j: usize,
@@ -216,7 +219,7 @@ pub(crate) fn death(
 ) -> Died
     requires { ⌜ Tabled (now words) (now places) (now shares) (now grains) (now factors) (now rates) (now means) ⌝ }
     requires { ⌜ LastStep (net-of (now words)) path len k class s j × (time ≡ mission-time (net-of (now words))) ⌝ }
-    requires { ⌜ Cached (net-of (now words)) (path-of (net-of (now words)) path len) s cache ⌝ }
+    requires { ⌜ Cached (net-of (now words)) (path-of (net-of (now words)) path len) s cache × (nth ≡ ops.of-whole (k + 1)) ⌝ }
     ensures { λ r. ⌜ r .lower ≡ bound.lower (net-of (now (words .entry))) (transition (net-of (now (words .entry))) j ∷ path-of (net-of (now (words .entry))) path len) ⌝ }
     ensures { λ r. ⌜ Cached (net-of (now (words .entry))) (path-of (net-of (now (words .entry))) path len) s (r .cache) ⌝ }
 {
@@ -237,7 +240,7 @@ pub(crate) fn death(
         j,
         cache,
     );
-    let lower = lower_of(shared, class, unpack(shares[j]), unpack(factors[j]), k + 1);
+    let lower = lower_of(shared, class, unpack(shares[j]), unpack(factors[j]), nth);
     if class == 2 {
         return Died { lower, cache };
     }

@@ -1,7 +1,8 @@
 // The walk over the cut tree.
 ghost use mathlib.Core.Path.{_≡_};
-ghost use Prim.Native.Nat.{_<_, _≤_};
+ghost use Prim.Native.Nat.{_+_, _<_};
 ghost use Rattle.figure.specs.Operands.{Sized};
+ghost use Rattle.figure.specs.Operations as ops;
 ghost use Rattle.tree.proofs.Carried.{carried-visits};
 ghost use Rattle.bounds.specs.Tables.{described, net-of};
 ghost use Rattle.bounds.specs.Walk as walks;
@@ -56,14 +57,21 @@ pub struct Exit {
     pub tip: Tip,
 }
 
-// U one step further: by a step of the class `class`, the k-th of class 1 if it is of class 1, with its share, h of the state that it leaves and T.
-fn further(class: u8, k: u64, upper: Figure, share: Figure, mean: Figure, time: Figure) -> Figure
-    requires { ⌜ Sized 9 20000 upper × Sized 9 1000 share × Sized 9 1000 mean × Sized 9 1000 time × (0 < k) × (k ≤ 24) ⌝ }
-    ensures { λ r. ⌜ r ≡ walks.upper-by class k upper share mean time ⌝ }
+// U one step further: by a step of the class `class`, the nth of class 1 if it is of class 1, with its share, h of the state that it leaves and T.
+fn further(
+    class: u8,
+    nth: Figure,
+    upper: Figure,
+    share: Figure,
+    mean: Figure,
+    time: Figure,
+) -> Figure
+    requires { ⌜ Sized 9 20000 upper × Sized 9 1000 share × Sized 9 1000 mean × Sized 9 1000 time × Sized 9 2000 nth × (0 < nth .digits) ⌝ }
+    ensures { λ r. ⌜ r ≡ walks.upper-by class nth upper share mean time ⌝ }
 {
     let by_share = upper.times_up(share);
     if class == 1 {
-        return by_share.times_up(time).divided_up(Figure::of_whole(k));
+        return by_share.times_up(time).divided_up(nth);
     }
     if class == 2 {
         return by_share;
@@ -71,15 +79,24 @@ fn further(class: u8, k: u64, upper: Figure, share: Figure, mean: Figure, time: 
     by_share.times_up(mean)
 }
 
-// The tip one step further.
-fn next_tip(tip: Tip, class: u8, to: usize, share: Figure, mean: Figure, time: Figure) -> Tip
+// The tip one step further; nth is the number of its next class 1 step.
+fn next_tip(
+    tip: Tip,
+    nth: Figure,
+    class: u8,
+    to: usize,
+    share: Figure,
+    mean: Figure,
+    time: Figure,
+) -> Tip
     requires { ⌜ Sized 9 20000 (tip .upper) × Sized 9 1000 share × Sized 9 1000 mean × Sized 9 1000 time × (tip .ones < 24) × (tip .len < 24) ⌝ }
+    requires { ⌜ nth ≡ ops.of-whole (tip .ones + 1) ⌝ }
     ensures { λ r. ⌜ r ≡ walks.tip-by tip class to share mean time ⌝ }
 {
     let upper = tip.upper;
     let len = tip.len + 1;
     let k = tip.ones + 1;
-    let next = further(class, k, upper, share, mean, time);
+    let next = further(class, nth, upper, share, mean, time);
     if class == 1 {
         return Tip {
             state: to,
@@ -96,7 +113,7 @@ fn next_tip(tip: Tip, class: u8, to: usize, share: Figure, mean: Figure, time: F
     }
 }
 
-// The exit i of the tip's state: its index stands in the slots, its kind and its target in its word.
+// The exit i of the tip's state: its index stands in the slots, its kind and its target in its word; nth is the number of the next class 1 step.
 fn exit_at(
     words: &[u32],
     slots: &[u16; 16016],
@@ -105,9 +122,11 @@ fn exit_at(
     means: &[u64; 1001],
     time: Figure,
     tip: Tip,
+    nth: Figure,
     i: usize,
 ) -> Exit
     requires { ⌜ ExitReady (now words) (now slots) (now places) (now shares) (now means) time tip i ⌝ }
+    requires { ⌜ nth ≡ ops.of-whole (tip .ones + 1) ⌝ }
     ensures { λ r. ⌜ ExitOf (net-of (now (words .entry))) (now (slots .entry)) tip i r ⌝ }
 {
     let s = tip.state;
@@ -116,7 +135,15 @@ fn exit_at(
     let w = word_of(words, places, j);
     let mean = means[s];
     let class = class_of(is_fast(w), mean);
-    let next = next_tip(tip, class, target(w), unpack(shares[j]), unpack(mean), time);
+    let next = next_tip(
+        tip,
+        nth,
+        class,
+        target(w),
+        unpack(shares[j]),
+        unpack(mean),
+        time,
+    );
     Exit {
         index: x,
         class,
@@ -147,6 +174,7 @@ pub(crate) fn walk(
     ensures { λ r. ⌜ Ends (net-of (now (words .entry))) (task .budget) totals (carried-visits (net-of (now (words .entry))) (described (now (words .entry)) .limits) left (walks.carried-of (net-of (now (words .entry))) path tip entries)) r ⌝ }
     ensures { λ r. ⌜ Counted r ⌝ }
 {
+    let nth = Figure::of_whole(tip.ones + 1);
     let mut entered = entries;
     let mut taken = path;
     let mut sums = totals;
@@ -161,7 +189,7 @@ pub(crate) fn walk(
         if sums.steps == task.budget {
             return with_step(sums);
         }
-        let exit = exit_at(words, slots, places, shares, means, time, tip, i);
+        let exit = exit_at(words, slots, places, shares, means, time, tip, nth, i);
         let x = exit.index;
         let next = exit.tip;
         let upper = next.upper;
@@ -181,6 +209,7 @@ pub(crate) fn walk(
                 path,
                 len,
                 tip.ones,
+                nth,
                 exit.class,
                 s,
                 wide(x),

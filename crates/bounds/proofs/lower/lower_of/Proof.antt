@@ -1,11 +1,8 @@
 -- `bounds::lower::lower_of` meets its contract: every figure on the way is an operand. Assumes nothing.
 use mathlib.Core.Path.{sym, _∙_}
-use native.Mathlib.Nat.{le-trans}
 use lib.Dec.{lit≤}
 use borrow.Author.Needs.{needs}
 use Rattle.figure.proofs.Sized.{sized-≤, times-down-sized, divided-down-sized}
-use Rattle.tree.proofs.Ranges.{count-sized}
-use Rattle.tree.proofs.Positive.{of-whole-above}
 use Rattle.bounds.proofs.Deaths.{lower-filled, lower-one, lower-other}
 use Rattle.bounds.proofs.lower.lower_of.Statement.{statement}
 use Rattle.bounds.proofs.lower.lower_of.Tie as tie
@@ -24,39 +21,30 @@ times-down-requires-2 c κs =
     let p = c .before .before .before .before .before .before .pre in
     (rw (c .times-down .ensures) (sized-≤ (lit≤ tt) (times-down-sized (p .0 .product) (p .1))), sized-≤ (lit≤ tt) (p .0 .time))
 
-of-whole-requires : tie.Need-of-whole-requires
-of-whole-requires c κs = search needs
-
 divided-down-requires : tie.Need-divided-down-requires
 divided-down-requires c κs =
-    let p = c .before .before .before .before .before .before .before .before .pre in (
-      rw (c .before .times-down2 .ensures, c .before .before .times-down .ensures)
+    let p = c .before .before .before .before .before .before .before .pre in (
+      rw (c .times-down2 .ensures, c .before .times-down .ensures)
           (sized-≤ (lit≤ tt) (times-down-sized (times-down-sized (p .0 .product) (p .1)) (p .0 .time))),
-      rw (c .of-whole .ensures) (sized-≤ (lit≤ tt) (count-sized _ (le-trans (p .4) (lit≤ tt)))),
-      rw (c .of-whole .ensures) (of-whole-above _ (p .3)),
+      sized-≤ (lit≤ tt) (p .3),
+      p .4,
     )
 
 times-down-requires-3 : tie.Need-times-down-requires-3
 times-down-requires-3 c κs =
-    let p = c .before .before .before .before .before .before .before .before .before .pre in (
-      rw (c .divided-down .ensures, c .before .of-whole .ensures, c .before .before .times-down2 .ensures, c .before .before .before .times-down .ensures)
-          (sized-≤ (lit≤ tt) (divided-down-sized (times-down-sized (times-down-sized (p .0 .product) (p .1)) (p .0 .time))
-          (count-sized _ (le-trans (p .4) (lit≤ tt))) (of-whole-above _ (p .3)))),
+    let p = c .before .before .before .before .before .before .before .before .pre in (
+      rw (c .divided-down .ensures, c .before .times-down2 .ensures, c .before .before .times-down .ensures)
+          (sized-≤ (lit≤ tt) (divided-down-sized (times-down-sized (times-down-sized (p .0 .product) (p .1)) (p .0 .time)) (p .3) (p .4))),
       sized-≤ (lit≤ tt) (p .0 .last),
     )
 
 returns-2 : tie.Need-returns-2
 returns-2 c =
-    let d = c .before .before .before .before in
+    let d = c .before .before .before in
     let one = d .before in
     let rest = one .before .before .before .before in
-    rw (
-      c .times-down3 .ensures,
-      c .before .divided-down .ensures,
-      c .before .before .of-whole .ensures,
-      c .before .before .before .times-down2 .ensures,
-      d .times-down .ensures,
-    ) (sym (lower-one _ _ _ _ _ (rest .if1 .left) (one .if2 .taken)))
+    rw (c .times-down3 .ensures, c .before .divided-down .ensures, c .before .before .times-down2 .ensures, d .times-down .ensures)
+    (sym (lower-one _ _ _ _ _ (rest .if1 .left) (one .if2 .taken)))
 
 times-down-requires-4 : tie.Need-times-down-requires-4
 times-down-requires-4 c κs = search needs
@@ -80,7 +68,6 @@ lower-of-spec =
     returns
     times-down-requires
     times-down-requires-2
-    of-whole-requires
     divided-down-requires
     times-down-requires-3
     returns-2

@@ -14,6 +14,7 @@ use Rattle.bounds.proofs.Classes.{step-valid}
 use Rattle.bounds.proofs.PathLowers.{step-factor-sized}
 use Rattle.bounds.proofs.Deaths.{count-high, death-at}
 use Rattle.bounds.proofs.Kept.{serves-kept}
+use Rattle.bounds.proofs.Tips.{divisor}
 use Rattle.bounds.proofs.visit.death.Statement.{statement}
 use Rattle.bounds.proofs.visit.death.Tie as tie
 
@@ -59,36 +60,34 @@ element-copy-out-unpack-2 c = search needs
 unpack-requires-2 : tie.Need-unpack-requires-2
 unpack-requires-2 c κs = search needs
 
-add-lower-of : tie.Need-add-lower-of
-add-lower-of c =
-    let d = c .before .before .before .before in
-    omega (arith, count-high (tabled d .classed) (last d))
-
 lower-of-requires : tie.Need-lower-of-requires
 lower-of-requires c κs =
     let d = c .before .before .before .before in
     let valid = tabled d .classed .valid in
-    let step = step-valid valid (last d .index) in (
+    let step = step-valid valid (last d .index) in
+    let n = divisor _ (omega arith) (omega (arith, count-high (tabled d .classed) (last d))) (start d .pre .1 .1 .1) in (
       d .shared-for .ensures .1,
       rw (share-at (c .before .before)) (sized-≤ (lit≤ tt) (share-sized _ (step .manner))),
       rw (factor-at c) (sized-≤ (lit≤ tt) (step-factor-sized valid _ (step .manner))),
-      omega arith,
-      omega (arith, count-high (tabled d .classed) (last d)),
+      n .0,
+      n .1,
     )
 
 returns : tie.Need-returns
 returns c =
     let u = c .before .before in
     let d = u .before .before .before .before in (
-      death-at (tabled d .classed) (last d) (d .shared-for .ensures .0) (share-at (u .before .before)) (factor-at u) (c .before .lower-of .ensures),
-      start d .pre .1 .1,
+      death-at (tabled d .classed) (last d) (d .shared-for .ensures .0) (share-at (u .before .before)) (factor-at u) (start d .pre .1 .1 .1)
+          (c .before .lower-of .ensures),
+      start d .pre .1 .1 .0,
     )
 
 returns-2 : tie.Need-returns-2
 returns-2 c =
     let u = c .before .before in
     let d = u .before .before .before .before in (
-      death-at (tabled d .classed) (last d) (d .shared-for .ensures .0) (share-at (u .before .before)) (factor-at u) (c .before .lower-of .ensures),
+      death-at (tabled d .classed) (last d) (d .shared-for .ensures .0) (share-at (u .before .before)) (factor-at u) (start d .pre .1 .1 .1)
+          (c .before .lower-of .ensures),
       record {
         shared-is = λ _. serves-kept _ _ (λ e. c .if1 .left (last d .class-is ∙ e)) (last d .leaves) (d .shared-for .ensures .0);
         sized = d .shared-for .ensures .1;
@@ -106,7 +105,6 @@ death-spec =
     mul-unpack-2
     element-copy-out-unpack-2
     unpack-requires-2
-    add-lower-of
     lower-of-requires
     returns
     returns-2)

@@ -10,7 +10,7 @@ use borrow.Author.Needs.{needs}
 use Rattle.tree.specs.Tree.{is-continued}
 use Rattle.tree.proofs.Outcomes.{is-death-true}
 use Rattle.bounds.specs.Walk.{outcome-of}
-use Rattle.bounds.proofs.Loop.{AtExit, exit-same, state-small, room, exit-ready, loop-start, steps-few, loop-end, loop-over}
+use Rattle.bounds.proofs.Loop.{AtExit, exit-same, state-small, room, ones-few, exit-ready, loop-start, steps-few, loop-end, loop-over}
 use Rattle.bounds.proofs.Noting.{last-lower}
 use Rattle.bounds.proofs.Turns.{Turn, Visited, there-small, judge-figures, last-step, note-figures}
 use Rattle.bounds.proofs.Turns.{death-noted, step-noted, cut-noted, visit-ended, before-fits, ready-there, visit-over, visit-back}
@@ -30,6 +30,7 @@ use Rattle.bounds.proofs.visit.no_cache.Reads as no-cache-reads
 use Rattle.bounds.proofs.visit.with_cut.Reads as with-cut-reads
 use Rattle.bounds.proofs.visit.with_death.Reads as with-death-reads
 use Rattle.bounds.proofs.visit.with_step.Reads as with-step-reads
+use Rattle.figure.proofs.Figure.of_whole.Reads as of-whole-reads
 use Rattle.bounds.proofs.walk.+walk.{statement}
 use Rattle.bounds.proofs.walk.+walk.Tie.{close}
 
@@ -44,6 +45,8 @@ walk-below t = and 9 walk-kinds.ps (falls 9 walk-kinds.ps _<_ μ-walk t) walk.Pr
 
 abbrev claims : ℕ → walk-lts.Claims
 claims t = (
+  of-whole-reads.Asked,
+  of-whole-reads.Learnt,
   no-cache-reads.Asked,
   no-cache-reads.Learnt,
   small-reads.Asked,
@@ -71,11 +74,11 @@ claims t = (
 )
 
 abbrev walk-Inv-loop : walk-lts.InvT-loop
-walk-Inv-loop words slots counts places shares grains factors rates means task tip left path entered₀ taken₀ sums₀ cache₀ time level s len count i₀ entered taken sums cache i =
+walk-Inv-loop words slots counts places shares grains factors rates means task tip left path nth entered₀ taken₀ sums₀ cache₀ time level s len count i₀ entered taken sums cache i =
     (i ≤ count) × AtExit words task tip left entered₀ taken₀ sums₀ i entered taken sums cache
 
 abbrev walk-μ-loop : walk-lts.MeasureT-loop
-walk-μ-loop words slots counts places shares grains factors rates means task tip left path entered₀ taken₀ sums₀ cache₀ time level s len count i₀ entered taken sums cache i =
+walk-μ-loop words slots counts places shares grains factors rates means task tip left path nth entered₀ taken₀ sums₀ cache₀ time level s len count i₀ entered taken sums cache i =
     count - i
 
 -- ---- the places of a turn: where the exit was read, and where the visit was noted
@@ -96,7 +99,7 @@ abbrev exit-loop : (t : ℕ) (c : ExitRead t) → AtLoop t
 exit-loop t c = c .before .before .before .before .before
 
 abbrev loop-begin : (t : ℕ) (c : AtLoop t) → walk-lts.Start (claims t) (walk-at t) walk.Post walk-Inv-loop walk-μ-loop
-loop-begin t c = c .before .before .before .before .before .before .before
+loop-begin t c = c .before .before .before .before .before .before .before .before .before
 
 more-at : (t : ℕ) (c : walk-lts.In-loop (claims t) (walk-at t) walk.Post walk-Inv-loop walk-μ-loop) → c .before .loop .i < getD ((loop-begin t (c .before)) .args .counts .now) ((loop-begin t (c .before)) .args .tip .state) 0
 more-at t c = omega (arith, c .before .before .small .ensures .0, c .loop-test .taken)
@@ -146,18 +149,24 @@ visited t c =
     let j = (tested t c) .before .judge in
     step-noted (turn t (read-exit t (tested t c))) (j .result) (j .ensures) (c .with-step2 .ensures .1) (on t c) (c .with-step2 .ensures .0)
 
+walk-add-of-whole : (t : ℕ) → walk-lts.Need-add-of-whole (claims t) (walk-at t) walk.Post walk-Inv-loop walk-μ-loop
+walk-add-of-whole t c = omega (arith, ones-few (c .before .before .pre .1))
+
+walk-of-whole-requires : (t : ℕ) → walk-lts.Need-of-whole-requires (claims t) (walk-at t) walk.Post walk-Inv-loop walk-μ-loop
+walk-of-whole-requires t c κs = search needs
+
 walk-no-cache-requires : (t : ℕ) → walk-lts.Need-no-cache-requires (claims t) (walk-at t) walk.Post walk-Inv-loop walk-μ-loop
 walk-no-cache-requires t c κs = tt
 
 walk-element-copy-out-small : (t : ℕ) → walk-lts.Need-element-copy-out-small (claims t) (walk-at t) walk.Post walk-Inv-loop walk-μ-loop
-walk-element-copy-out-small t c = state-small (c .before .before .before .before .pre .1)
+walk-element-copy-out-small t c = state-small (c .before .before .before .before .before .before .pre .1)
 
 walk-small-requires : (t : ℕ) → walk-lts.Need-small-requires (claims t) (walk-at t) walk.Post walk-Inv-loop walk-μ-loop
 walk-small-requires t c κs = tt
 
 walk-loop-holds : (t : ℕ) → walk-lts.Need-loop-holds (claims t) (walk-at t) walk.Post walk-Inv-loop walk-μ-loop
 walk-loop-holds t c =
-    let s = c .before .before .before .before .before .before in
+    let s = c .before .before .before .before .before .before .before .before in
     let good = s .good .1 .1 .1 .1 .1 .1 .1 .1 .1 .1 .1 .1 .1 .0 in
     let size : length (s .args .path) ≡ 24 = search needs in
     (omega arith, loop-start (s .pre .1) size (c .before .before .before .before .no-cache .ensures _ _ _))
@@ -176,7 +185,8 @@ walk-returns t c =
 walk-exit-at-requires : (t : ℕ) → walk-lts.Need-exit-at-requires (claims t) (walk-at t) walk.Post walk-Inv-loop walk-μ-loop
 walk-exit-at-requires t c κs =
     let n = c .before .before .before in
-    exit-ready ((loop-begin t (n .before)) .pre .1) (more-at t n)
+    let o = n .before .before .before .before .before .before .before in
+    (exit-ready ((loop-begin t (n .before)) .pre .1) (more-at t n), o .of-whole .ensures)
 
 walk-array-read-before : (t : ℕ) → walk-lts.Need-array-read-before (claims t) (walk-at t) walk.Post walk-Inv-loop walk-μ-loop
 walk-array-read-before t c = there-small (turn t (c .before .before))
@@ -199,7 +209,8 @@ walk-wide-requires t c κs = tt
 walk-death-requires : (t : ℕ) → walk-lts.Need-death-requires (claims t) (walk-at t) walk.Post walk-Inv-loop walk-μ-loop
 walk-death-requires t c κs =
     let w = turn t (read-exit t (c .before .before)) in
-    (w .ready .tabled, ((last-step w (c .wide .ensures .0), w .ready .task-is .time-is), w .kept .cached))
+    let o = (exit-loop t (read-exit t (c .before .before))) .before .before .before .before .before .before in
+    (w .ready .tabled, ((last-step w (c .wide .ensures .0), w .ready .task-is .time-is), (w .kept .cached, o .of-whole .ensures)))
 
 walk-with-death-requires : (t : ℕ) → walk-lts.Need-with-death-requires (claims t) (walk-at t) walk.Post walk-Inv-loop walk-μ-loop
 walk-with-death-requires t c κs =
@@ -292,6 +303,8 @@ pub +walk-spec : {M : Type 1} → statement M
     walk.Post
     walk-Inv-loop
     walk-μ-loop
+    (walk-add-of-whole t)
+    (walk-of-whole-requires t)
     (walk-no-cache-requires t)
     (walk-element-copy-out-small t)
     (walk-small-requires t)

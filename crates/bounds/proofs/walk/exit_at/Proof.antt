@@ -7,30 +7,30 @@ use Rattle.bounds.proofs.walk.exit_at.Statement.{statement}
 use Rattle.bounds.proofs.walk.exit_at.Tie as tie
 
 mul-x : tie.Need-mul-x
-mul-x c = omega (arith, state-small (c .before .pre))
+mul-x c = omega (arith, state-small (c .before .pre .0))
 
 add-x : tie.Need-add-x
-add-x c = omega (arith, slot-inside (c .before .pre))
+add-x c = omega (arith, slot-inside (c .before .pre .0))
 
 mul-x-2 : tie.Need-mul-x-2
-mul-x-2 c = omega (arith, slot-inside (c .before .pre))
+mul-x-2 c = omega (arith, slot-inside (c .before .pre .0))
 
 element-copy-out-x : tie.Need-element-copy-out-x
-element-copy-out-x c = slot-inside (c .before .pre)
+element-copy-out-x c = slot-inside (c .before .pre .0)
 
 wide-requires : tie.Need-wide-requires
 wide-requires c κs = search needs
 
 word-of-requires : tie.Need-word-of-requires
 word-of-requires c κs =
-    let h = c .before .before .before .pre in
+    let h = c .before .before .before .pre .0 in
     (rw (c .wide .ensures .0) (index-small (h .classed .valid) (h .index)), exit-inside h (c .wide .ensures .0))
 
 mul-mean : tie.Need-mul-mean
-mul-mean c = omega (arith, state-small (c .before .before .before .before .pre))
+mul-mean c = omega (arith, state-small (c .before .before .before .before .pre .0))
 
 element-copy-out-mean : tie.Need-element-copy-out-mean
-element-copy-out-mean c = state-small (c .before .before .before .before .pre)
+element-copy-out-mean c = state-small (c .before .before .before .before .pre .0)
 
 is-fast-requires : tie.Need-is-fast-requires
 is-fast-requires c κs = search needs
@@ -56,8 +56,9 @@ unpack-requires-2 c κs = search needs
 next-tip-requires : tie.Need-next-tip-requires
 next-tip-requires c κs =
     let w = c .before .before .before .before .before .before .before .before in
-    let h = w .before .before .before .pre in
-    (h .upper, exit-share-sized h (w .wide .ensures .0) (c .before .unpack .ensures), mean-sized h (c .unpack2 .ensures), time-sized h, h .ones, h .room)
+    let p = w .before .before .before .pre in
+    let h = p .0 in
+    ((h .upper, exit-share-sized h (w .wide .ensures .0) (c .before .unpack .ensures), mean-sized h (c .unpack2 .ensures), time-sized h, h .ones, h .room), p .1)
 
 returns : tie.Need-returns
 returns c =
@@ -65,7 +66,7 @@ returns c =
     let f = u .before .before .before .before .before in
     let a = f .before .before in
     let w = a .before in
-    exit-of (w .before .before .before .pre) (w .wide .ensures .0) (a .word-of .ensures)
+    exit-of (w .before .before .before .pre .0) (w .wide .ensures .0) (a .word-of .ensures)
     (f .is-fast .ensures) (u .before .before .before .before .class-of .ensures) (u .before .before .before .target .ensures .0)
     (u .before .unpack .ensures) (u .unpack2 .ensures) (c .next-tip .ensures)
 

@@ -1,8 +1,10 @@
 -- `further` meets its contract: the figures on the way are operands, and the results go by the class. Assumes nothing.
-use mathlib.Core.Path.{sym, ap, ap₂, _∙_}
+use mathlib.Core.Path.{sym, ap, _∙_}
+use lib.Dec.{lit≤}
 use borrow.Author.Needs.{needs}
+use Rattle.figure.proofs.Sized.{sized-≤}
 use Rattle.figure.specs.Operations.{times-up, divided-up}
-use Rattle.bounds.proofs.Tips.{by-share-operand, by-time-operand, small-operand, divisor, upper-first, upper-second, upper-third}
+use Rattle.bounds.proofs.Tips.{by-share-operand, by-time-operand, small-operand, upper-first, upper-second, upper-third}
 use Rattle.bounds.proofs.walk.further.Statement.{statement}
 use Rattle.bounds.proofs.walk.further.Tie as tie
 
@@ -14,21 +16,18 @@ times-up-requires-2 c κs =
     let h = c .before .before .pre in
     (by-share-operand (h .0) (h .1) (c .before .times-up .ensures), small-operand (h .3))
 
-of-whole-requires : tie.Need-of-whole-requires
-of-whole-requires c κs = search needs
-
 divided-up-requires : tie.Need-divided-up-requires
 divided-up-requires c κs =
-    let h = c .before .before .before .before .pre in
-    let d = divisor _ (h .4) (h .5) (c .of-whole .ensures) in
-    (by-time-operand (h .0) (h .1) (c .before .before .before .times-up .ensures) (h .3) (c .before .times-up2 .ensures), d .0, d .1)
+    let h = c .before .before .before .pre in
+    (by-time-operand (h .0) (h .1) (c .before .before .times-up .ensures) (h .3) (c .times-up2 .ensures), sized-≤ (lit≤ tt) (h .4), h .5)
 
 returns : tie.Need-returns
 returns c =
     let o = c .before in
+    let a = o .before .before .before .args in
     c .divided-up .ensures
-    ∙ ap₂ divided-up (o .before .times-up2 .ensures ∙ ap (λ f. times-up f (o .before .before .before .before .args .time)) (o .before .before .before .times-up .ensures)) (o .of-whole .ensures)
-    ∙ sym (upper-first _ _ _ _ _ _ (o .before .before .if1 .taken))
+    ∙ ap (λ f. divided-up f (a .nth)) (o .times-up2 .ensures ∙ ap (λ f. times-up f (a .time)) (o .before .before .times-up .ensures))
+    ∙ sym (upper-first _ _ _ _ _ _ (o .before .if1 .taken))
 
 returns-2 : tie.Need-returns-2
 returns-2 c = c .before .before .times-up .ensures ∙ sym (upper-second _ _ _ _ _ _ (c .before .if1 .left) (c .if2 .taken))
@@ -51,7 +50,6 @@ further-spec =
     (tie.spec
     times-up-requires
     times-up-requires-2
-    of-whole-requires
     divided-up-requires
     returns
     returns-2
