@@ -137,7 +137,7 @@ unfoldable pub tens : ℕ → ℕ → List ℕ
 tens zero j = []
 tens (suc n) j = 10 ^ j ∷ tens n (suc j)
 
-pub tens-at : (n j k : ℕ) → k < n → getD (tens n j) k 0 ≡ 10 ^ (j + k)
+tens-at : (n j k : ℕ) → k < n → getD (tens n j) k 0 ≡ 10 ^ (j + k)
 unfolding tens
 tens-at zero j k h = absurd (not-suc-le-zero h)
 tens-at (suc n) j zero h = ap (λ m. 10 ^ m) (omega arith)

@@ -1,11 +1,10 @@
 -- Powers of natural fractions with a natural exponent.
-use mathlib.Core.Path.{_≡_, refl}
+use mathlib.Core.Path.{refl}
 use mathlib.Core.List.{[], _∷_}
-use Prim.Native.Nat.{ℕ, zero, suc, _+_, _^_}
+use Prim.Native.Nat.{ℕ, zero, suc, _^_}
 use native.Mathlib.Nat as Nat
-use native.Mathlib.Nat.{zero-add}
-use native.Mathlib.Omega.{arith, patom}
-use Rattle.fraction.proofs.Ratio.{Ratio, _≈_, ofℕ, _⊗_, ≈-refl, ≈-sym, ≈-trans, ⊗-cong, ⊗-one, ⊗-assoc, ofℕ-⊗, ⊗-one-right}
+use native.Mathlib.Omega.{patom}
+use Rattle.fraction.proofs.Ratio.{Ratio, _≈_, ofℕ, _⊗_, ≈-refl, ≈-sym, ≈-trans, ⊗-cong, ⊗-one, ofℕ-⊗, ⊗-one-right}
 use Rattle.fraction.proofs.Certificate.{_*'_, same-value}
 use Rattle.fraction.proofs.Inverse.{inv, inv-⊗, inv-ofℕ, _over_}
 
@@ -24,12 +23,6 @@ unfolding pow
 pow-⊗ x y zero = ≈-sym (⊗-one _)
 pow-⊗ x y (suc k) = ≈-trans (⊗-cong (≈-refl (x ⊗ y)) (pow-⊗ x y k)) (same-value (x ∷ y ∷ pow x k ∷ pow y k ∷ [])
     (patom 0 *' patom 1 *' (patom 2 *' patom 3)) (patom 0 *' patom 2 *' (patom 1 *' patom 3)) tt tt)
-
-pub pow-+ : (x : Ratio) (m n : ℕ) → pow x (m + n) ≈ pow x m ⊗ pow x n
-unfolding pow
-pow-+ x zero n = rw (zero-add n) (≈-sym (⊗-one _))
-pow-+ x (suc m) n = let e : suc m + n ≡ suc (m + n) = omega arith in
-    rw e (≈-trans (⊗-cong (≈-refl x) (pow-+ x m n)) (≈-sym (⊗-assoc x (pow x m) (pow x n))))
 
 pub pow-ofℕ : (n k : ℕ) → pow (ofℕ n) k ≈ ofℕ (n ^ k)
 unfolding pow
