@@ -16,7 +16,7 @@
  * Stack. A call needs at most BOUNDS_STACK bytes of stack: a quarter of a megabyte. That is measured, not proved: the tests run every call in a
  * thread that has so much and what the thread itself needs (PTHREAD_STACK_MIN), and see what it used (tests/c/stack.c).
  *
- * Time. A call takes at most a fixed time for each word and each step, so the budget bounds it (docs/BENCHMARK.md).
+ * Time. It grows with the words and with the steps, of which the budget allows so many; measured (docs/BENCHMARK.md), not proved.
  */
 #ifndef BOUNDS_H
 #define BOUNDS_H

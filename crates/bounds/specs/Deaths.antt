@@ -1,5 +1,5 @@
--- The lower of a death path in two parts: what the deaths share that leave one state by one class, and what each adds. Assumes nothing: these are
--- definitions.
+-- The lower of a death path in two parts: what the deaths share that leave one state by one class, and what each adds. No public contract cites
+-- this page. Assumes nothing: these are definitions.
 use Prim.Native.Nat.{ℕ, zero, suc, _+_, _≤_, _<_}
 use mathlib.Core.Path.{_≡_}
 use mathlib.Core.Bool.{Bool, true, false}

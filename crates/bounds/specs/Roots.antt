@@ -1,4 +1,4 @@
--- The search for the least number of grains: what its parts say. Assumes nothing: these are definitions.
+-- The search for the least number of grains: what its parts say. No public contract cites this page. Assumes nothing: these are definitions.
 use Prim.Native.Nat.{ℕ, _^_, _≤_, _<_}
 use mathlib.Core.Path.{_≡_}
 use mathlib.Core.Bool.{Bool, true, false}

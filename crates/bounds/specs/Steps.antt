@@ -1,5 +1,5 @@
 -- The share, the grains and the lower factor of a step, of its state's sums and the mission time as figures. Laws say that of a net's own sums they
--- are the net's. Assumes nothing: these are definitions.
+-- are the net's. No public contract cites this page. Assumes nothing: these are definitions.
 use Prim.Native.Nat.{ℕ, _^_}
 use mathlib.Core.List.{[]}
 use lib.IntN.{pos}

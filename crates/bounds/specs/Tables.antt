@@ -1,4 +1,5 @@
--- What the tables hold that are worked out once for each state and each transition. Assumes nothing: these are definitions.
+-- What the tables hold that are worked out once for each state and each transition. No public contract cites this page. Assumes nothing: these are
+-- definitions.
 use Prim.Native.Nat.{ℕ, zero, suc, _+_, _*_, _/_, _%_, _≤_, _<_}
 use mathlib.Core.Path.{_≡_}
 use mathlib.Core.Bool.{Bool, true, false}

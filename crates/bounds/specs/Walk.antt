@@ -1,4 +1,4 @@
--- What the walk is handed, keeps and hands back. Assumes nothing: these are definitions.
+-- What the walk is handed, keeps and hands back. No public contract cites this page. Assumes nothing: these are definitions.
 use Prim.Native.Nat.{ℕ, zero, suc, _+_, _*_, _≤_, _<_}
 use mathlib.Core.Path.{_≡_}
 use mathlib.Core.Bool.{Bool, true, false}

@@ -184,7 +184,8 @@ fn reported(t: Totals) -> Report
     }
 }
 
-// A lower and an upper bound of the probability of failure of the model that the words describe, or a refusal.
+// The report on the model that the words describe, White's lower and upper bounds summed over the paths of its cut tree and rounded outward; or a
+// refusal. It takes every list of words and every budget.
 pub fn unreliability(words: &[u32], budget: u64) -> Answer
     ensures { λ r. ⌜ Promised (now (words .entry)) (now (words .exit)) budget r ⌝ }
 {

@@ -33,7 +33,7 @@ pub(crate) fn class_of(fast: bool, mean: u64) -> u8
 }
 
 // The class of a step, and the state that it leaves.
-pub struct Leaving {
+struct Leaving {
     pub class: u8,
     pub state: usize,
 }
@@ -51,7 +51,7 @@ fn left_by(words: &[u32], places: &[u16; 4000], means: &[u64; 1001], j: usize) -
 }
 
 // N' and A of a path.
-pub struct Spent {
+struct Spent {
     pub grains: u64,
     pub rates: Figure,
 }
@@ -129,7 +129,7 @@ fn product(
 
 // What the deaths share that leave one state by one class and with the same grains: whether N' fills the mission time, so that their lowers are
 // 0; else down(t), the product up to that state and the last factor.
-pub struct Shared {
+pub(crate) struct Shared {
     pub filled: bool,
     pub time: Figure,
     pub product: Figure,

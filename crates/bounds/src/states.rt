@@ -15,7 +15,7 @@ use model::words::quantity_at;
 use model::words::word_at;
 
 // E, h rounded up, h rounded down (h') and H of a state.
-pub struct Sums {
+struct Sums {
     pub rate: Figure,
     pub mean: Figure,
     pub floor: Figure,

@@ -20,7 +20,7 @@ use model::words::origin;
 use model::words::word_at;
 
 // An exit's rate or probability, its grains and its factor in a lower.
-pub struct Step {
+struct Step {
     pub share: Figure,
     pub grains: u64,
     pub factor: Figure,

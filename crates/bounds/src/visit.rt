@@ -25,7 +25,7 @@ use crate::walk::Totals;
 use figure::Figure;
 
 // What becomes of a path, with its reason.
-pub enum Outcome {
+pub(crate) enum Outcome {
     Death,
     EnteredTooOften,
     StepLimit,
@@ -34,13 +34,13 @@ pub enum Outcome {
 }
 
 // What the deaths share that leave the walk's state by a slow exit, once the first was met.
-pub struct Cache {
+pub(crate) struct Cache {
     pub known: bool,
     pub shared: Shared,
 }
 
 // The lower of a death path, and the cache after it.
-pub struct Died {
+pub(crate) struct Died {
     pub lower: Figure,
     pub cache: Cache,
 }

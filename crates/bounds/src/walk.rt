@@ -25,7 +25,7 @@ use model::words::is_fast;
 use model::words::target;
 
 // What stays the same in a walk: the mission time, the prune level, the entry limit and the budget.
-pub struct Task {
+pub(crate) struct Task {
     pub time: Figure,
     pub level: Figure,
     pub entries: u8,
@@ -33,7 +33,7 @@ pub struct Task {
 }
 
 // The end of a path: its last state, its rounded upper, its class 1 steps and its steps.
-pub struct Tip {
+pub(crate) struct Tip {
     pub state: usize,
     pub upper: Figure,
     pub ones: u64,
@@ -41,7 +41,7 @@ pub struct Tip {
 }
 
 // The totals of eighteen digits, of the lowers and the uppers of death paths and of the uppers of cut paths, and the counts.
-pub struct Totals {
+pub(crate) struct Totals {
     pub lower: Figure,
     pub died: Figure,
     pub cut: Figure,
@@ -51,7 +51,7 @@ pub struct Totals {
 }
 
 // An exit of a state: the index of its transition, its class and the tip beyond it.
-pub struct Exit {
+struct Exit {
     pub index: u16,
     pub class: u8,
     pub tip: Tip,
