@@ -6,7 +6,7 @@ use lib.IntN.{pos}
 use Rattle.fraction.proofs.Ratio.{Ratio, _≈_, ofℕ, _⊕_, _⊗_, ≈-refl, ≈-sym, ⊗-cong, ofℕ-pos}
 use Rattle.fraction.proofs.Inverse.{inv}
 use Rattle.fraction.proofs.PowersOfTen.{ten-to, ten-nat}
-use Rattle.fraction.proofs.Within.{Within, within-inv}
+use Rattle.fraction.proofs.Within.{Within, within-≈, within-inv}
 use Rattle.fraction.proofs.Signed.{signed}
 use Rattle.figure.specs.declared.Figure.{Figure}
 use Rattle.figure.specs.Rounding.{up}
@@ -14,7 +14,7 @@ use Rattle.figure.specs.Operations.{times-up, plus-up, divided-up, times-ten, o
 use Rattle.figure.proofs.Value.{val}
 use Rattle.figure.proofs.Operations.{value-times, value-plus, value-divided}
 use Rattle.figure.proofs.Exact.{natural-of-whole, natural-times-ten}
-use Rattle.accuracy.proofs.Roundings.{ρ, rounded-up, roundings-none, roundings-≤, within-≈, roundings-trans, roundings-⊗, roundings-scale, roundings-⊕}
+use Rattle.accuracy.proofs.Roundings.{ρ, rounded-up, roundings-none, roundings-≤, roundings-trans, roundings-⊗, roundings-scale, roundings-⊕}
 use Rattle.accuracy.proofs.Under.{Under, under-exact, under-pos}
 
 -- the figure f is x, or above it by at most n roundings; a record, so that n, f and x can be inferred

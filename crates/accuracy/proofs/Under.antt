@@ -2,14 +2,14 @@
 use Prim.Native.Nat.{ℕ, _+_, _≤_, _<_, max}
 use native.Mathlib.Omega.{arith}
 use Rattle.fraction.proofs.Ratio.{Ratio, _≈_, ofℕ, _⊕_, _⊗_, ≈-refl, pos-left, pos-≼}
-use Rattle.fraction.proofs.Within.{Within}
+use Rattle.fraction.proofs.Within.{Within, within-≈}
 use Rattle.fraction.proofs.Signed.{signed, signed-whole}
 use Rattle.figure.specs.declared.Figure.{Figure}
 use Rattle.figure.specs.Rounding.{down}
 use Rattle.figure.specs.Operations.{times-down, plus-down, of-whole}
 use Rattle.figure.proofs.Value.{val}
 use Rattle.figure.proofs.Operations.{value-times, value-plus}
-use Rattle.accuracy.proofs.Roundings.{ρ, rounded-down, roundings-none, roundings-≤, within-≈, roundings-trans, roundings-⊗, roundings-⊕}
+use Rattle.accuracy.proofs.Roundings.{ρ, rounded-down, roundings-none, roundings-≤, roundings-trans, roundings-⊗, roundings-⊕}
 
 -- the figure f is x, or below it by at most n roundings; a record, so that n, f and x can be inferred
 pub record Under (n : ℕ) (f : Figure) (x : Ratio) : Type 0 where

@@ -10,13 +10,13 @@ use native.Mathlib.Omega.{arith, patom, plit}
 use lib.Dec.{T, ltb, ltb→lt, nltb→le}
 use lib.IntN.{ℤ, sucℤ}
 use Rattle.fraction.specs.Fraction.{Fraction}
-use Rattle.fraction.proofs.Ratio.{Ratio, _≼_, ofℕ, _⊕_, _⊗_, ≼-refl, ≼-trans, ≈-le, ⊗-mono, ⊗-comm, ofℕ-≼, ofℕ-⊕, ⊗-zero, zero-≼, zero-or-pos}
+use Rattle.fraction.proofs.Ratio.{Ratio, _≼_, ofℕ, _⊕_, _⊗_, ≼-refl, ≼-trans, ≈-le, ⊗-mono, ⊗-comm, ofℕ-≼, ofℕ-⊕, ⊗-zero, zero-≼, zero-or-pos, not-≼, zero-below}
 use Rattle.fraction.proofs.Certificate.{_+'_, _*'_, prove, hyp}
 use Rattle.fraction.proofs.PowersOfTen.{ten-to}
 use Rattle.fraction.proofs.Signed.{signed}
 use Rattle.figure.specs.declared.Figure.{Figure}
 use Rattle.figure.specs.Rounding.{figure, none, IsFigure, is-zero, IsDown, floor, down-from, down}
-use Rattle.figure.proofs.Scale.{pow-pos, not-≼, zero-below, ten-step, multiple-≼, Powers, same-power, lower, higher, powers, higher-≼}
+use Rattle.figure.proofs.Scale.{pow-pos, ten-step, multiple-≼, Powers, same-power, lower, higher, powers, higher-≼}
 use Rattle.figure.proofs.Counts.{floor-reach, floor-greatest}
 use Rattle.figure.proofs.Digits.{start, start-low, start-not-high}
 use Rattle.figure.proofs.Value.{val, above-value, above-val, value-≼, val-≼, low-end, figure-of, Shape, empty, full, shape, where-above, figure-same}

@@ -11,14 +11,14 @@ use mir.Syntax.{w32}
 use mir.Val.{SFits, toZ, ofZ}
 use mir.Facts.{toZ-ofZ}
 use borrow.Author.Tests.{le-leb, lt-leb, leb-true, leb-false}
-use Rattle.fraction.proofs.Ratio.{_≼_, ofℕ, _⊗_, ≼-trans}
+use Rattle.fraction.proofs.Ratio.{_≼_, ofℕ, _⊗_, ≼-trans, zero-below}
 use Rattle.fraction.proofs.PowersOfTen.{ten-to}
 use Rattle.fraction.proofs.Signed.{at-most-signed}
 use Rattle.fraction.specs.Fraction.{at-most}
 use Rattle.figure.specs.declared.Figure.{Figure}
 use Rattle.figure.specs.Rounding.{IsFigure}
 use Rattle.figure.specs.Operations.{at-or-below}
-use Rattle.figure.proofs.Scale.{zero-below, not-zero, multiple-pos, multiple-≤, multiple-≼, higher-≼, Powers, same-power, lower, higher, powers}
+use Rattle.figure.proofs.Scale.{not-zero, multiple-pos, multiple-≤, multiple-≼, higher-≼, Powers, same-power, lower, higher, powers}
 use Rattle.figure.proofs.Value.{val, value-is}
 use Rattle.figure.proofs.Stored.{stored}
 use Rattle.figure.proofs.Figures.{digits-high, digits-low, zero-num}

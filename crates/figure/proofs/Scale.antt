@@ -1,13 +1,12 @@
 -- Multiples of powers of ten: how those of one power and of two powers compare. Assumes nothing.
 use mathlib.Core.Path.{_≡_, refl, sym, _∙_, ap}
 use mathlib.Core.List.{[], _∷_}
-use mathlib.Core.Logic.{⊎-elim}
 use Prim.Native.Nat.{ℕ, zero, suc, _*_, _^_, _≤_, _<_}
 use native.Mathlib.Nat.{mul-pos, one-le-pow, zero-lt-suc, pow-le-pow-right, pow-succ', lt-of-not-le, not-le-of-lt, le-of-suc-le-suc}
 use native.Mathlib.Omega.{arith, patom}
 use lib.IntN.{ℤ, pos, negsuc, sucℤ, predℤ, negℤ, _+ℤ_, _-ℤ_, +ℤ-idl, +ℤ-sucℤ, sucℤ-+ℤ, +ℤ-comm, -ℤ-+ℤ-cancel, suc-pred, pred-suc, negℤ-negℤ, negℤ-+ℤ, +ℤ-invr}
 use Rattle.fraction.proofs.Ratio.{Ratio, _≼_, _≈_, ofℕ, _⊗_, ≼-refl, ≼-trans, ≈-refl, ≈-sym, ≈-trans, ≈-le, ≈-ge, ⊗-mono}
-use Rattle.fraction.proofs.Ratio.{⊗-cong, ⊗-comm, ⊗-assoc, ⊗-one-right, ofℕ-≼, ofℕ-⊗, ofℕ-≤, ofℕ-pos, ⊗-pos, ⊗-cancel, ≼-or}
+use Rattle.fraction.proofs.Ratio.{⊗-cong, ⊗-comm, ⊗-assoc, ⊗-one-right, ofℕ-≼, ofℕ-⊗, ofℕ-≤, ofℕ-pos, ⊗-pos, ⊗-cancel}
 use Rattle.fraction.proofs.Certificate.{_*'_, same-value}
 use Rattle.fraction.proofs.PowersOfTen.{ten-to, ten-pos, ten-suc, ten-zero, ten-nat, ten-+, ten-≼}
 
@@ -24,13 +23,7 @@ exponent-< i j h = lt-of-not-le (λ l. not-le-of-lt h (pow-mono l))
 pub exponent-≤ : (i j : ℕ) → 10 ^ i ≤ 10 ^ j → i ≤ j
 exponent-≤ i j h = le-of-suc-le-suc (exponent-< i (suc j) (omega (arith, pow-succ' 10 j, pow-pos j)))
 
-pub not-≼ : (x y : Ratio) → ¬ (x ≼ y) → y ≼ x
-not-≼ x y h = ⊎-elim (λ p. absurd (h p)) (λ q. q) (≼-or x y)
-
 -- ---- nothing, and more than nothing
-
-pub zero-below : {x : Ratio} (y : Ratio) → x .num ≡ 0 → x ≼ y
-zero-below y z = record { le = rw z (omega arith) }
 
 pub not-zero : (x : Ratio) (e : ℤ) → 0 < x .num → ¬ (x ≼ ofℕ 0 ⊗ ten-to e)
 unfolding _⊗_ ofℕ

@@ -11,13 +11,13 @@ use lib.Dec.{T, T-not, ltb, ltb→lt, nltb→le, eqb, eqb→eq, eqb-refl}
 use lib.Arith.{lt-of-le-ne}
 use lib.IntN.{ℤ, pos, sucℤ, predℤ, _+ℤ_, +ℤ-idr, +ℤ-sucℤ, sucℤ-+ℤ, pred-suc, +ℤ-one}
 use Rattle.fraction.specs.Fraction.{Fraction}
-use Rattle.fraction.proofs.Ratio.{Ratio, _≼_, ofℕ, _⊗_, ≼-refl, ≼-trans, ≈-le, ≈-ge, ⊗-mono, ofℕ-≼, ofℕ-⊕, ⊗-zero, zero-≼, zero-or-pos, pos-≼}
+use Rattle.fraction.proofs.Ratio.{Ratio, _≼_, ofℕ, _⊗_, ≼-refl, ≼-trans, ≈-le, ≈-ge, ⊗-mono, ofℕ-≼, ofℕ-⊕, ⊗-zero, zero-≼, zero-or-pos, pos-≼, not-≼, zero-below}
 use Rattle.fraction.proofs.Certificate.{_+'_, _*'_, prove, hyp}
 use Rattle.fraction.proofs.PowersOfTen.{ten-to}
 use Rattle.fraction.proofs.Signed.{signed}
 use Rattle.figure.specs.declared.Figure.{Figure}
 use Rattle.figure.specs.Rounding.{figure, none, IsFigure, is-zero, IsUp, ceiling, up-from, up}
-use Rattle.figure.proofs.Scale.{pow-pos, not-≼, zero-below, not-zero, multiple-pos, ten-step, ten-step-down}
+use Rattle.figure.proofs.Scale.{pow-pos, not-zero, multiple-pos, ten-step, ten-step-down}
 use Rattle.figure.proofs.Scale.{multiple-≤, multiple-≼, Powers, same-power, lower, higher, powers, lower-≼, higher-≼}
 use Rattle.figure.proofs.Counts.{ceiling-reach, ceiling-least}
 use Rattle.figure.proofs.Digits.{start, start-high, start-not-low}

@@ -55,6 +55,9 @@ pub ≼-or : (x y : Ratio) → (x ≼ y) ⊎ (y ≼ x)
     le-or-lt (suc a) zero = inr (zero-lt-suc a)
     le-or-lt (suc a) (suc b) = ⊎-elim (λ p. inl (suc-le-suc p)) (λ q. inr (suc-le-suc q)) (le-or-lt a b)
 
+pub not-≼ : (x y : Ratio) → ¬ (x ≼ y) → y ≼ x
+not-≼ x y h = ⊎-elim (λ p. absurd (h p)) (λ q. q) (≼-or x y)
+
 pub ≈-refl : (x : Ratio) → x ≈ x
 ≈-refl x = record { eq = refl }
 
@@ -216,6 +219,9 @@ pos-right x y h = pos-left y x (pos-≼ (≈-le (⊗-comm x y)) h)
 pub num-zero : (x : Ratio) → x .num ≡ 0 → x ≈ ofℕ 0
 unfolding ofℕ
 num-zero x e = record { eq = rw e (omega arith) }
+
+pub zero-below : {x : Ratio} (y : Ratio) → x .num ≡ 0 → x ≼ y
+zero-below y z = record { le = rw z (omega arith) }
 
 pub zero-num : {x : Ratio} → x ≈ ofℕ 0 → x .num ≡ 0
 unfolding ofℕ

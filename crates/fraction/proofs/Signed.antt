@@ -5,7 +5,7 @@ use Prim.Native.Nat.{ℕ, zero, suc, _*_, _≤_, _<_}
 use native.Mathlib.Nat.{mul-pos}
 use native.Mathlib.Omega.{arith}
 use lib.Dec.{lt→ltb, leb, leb→le, le→leb}
-use lib.IntN.{ℤ, pos, negsuc, _*ℤ_}
+use lib.IntN.{ℤ, pos, negsuc, negℤ, _*ℤ_}
 use lib.Signed.{_≤ℤ_, _<ℤ_}
 use Rattle.fraction.specs.Fraction.{Fraction, _≤ᶠ_, _≈ᶠ_, at-most, whole, ratio, inverse, ten, _+ᶠ_, _-ᶠ_, _*ᶠ_, _/ᶠ_, _^ᶠ_}
 pub use Rattle.fraction.proofs.Integers.{natural, minus-is}
@@ -118,7 +118,23 @@ pub nonnegative-none : (x : Fraction) → x ≤ᶠ whole 0 → (nonnegative x) .
 unfolding nonnegative whole
 nonnegative-none x h = omega (arith, (nonnegative-≼ h) .le)
 
--- ---- differences
+-- ---- products and differences
+
+natural-times : (a : ℕ) (z : ℤ) → natural (pos a *ℤ z) ≡ a * natural z
+natural-times a (pos n) = refl
+natural-times a (negsuc n) = negative (a * suc n) ∙ omega arith
+  where
+    negative : (k : ℕ) → natural (negℤ (pos k)) ≡ 0
+    negative zero = refl
+    negative (suc k) = refl
+
+pub nonnegative-times : (x : Ratio) (y : Fraction) → nonnegative (signed x *ᶠ y) ≡ x ⊗ nonnegative y
+unfolding nonnegative signed _*ᶠ_ _⊗_
+nonnegative-times x y = λ i. record {
+  num = natural-times (x .num) (y .num) i;
+  den = x .den * y .den;
+  den-pos = mul-pos (x .den-pos) (y .den-pos);
+}
 
 -- a difference, set to 0 where it is negative, is the difference of natural numerators
 pub nonnegative-minus : (x y : Ratio) → nonnegative (signed x -ᶠ signed y) ≡ x ⊖ y

@@ -44,6 +44,13 @@ within-refl x = record { low = ≼-refl x; high = ≈-ge (⊗-one-right x) }
 pub within-≼ : {F G x̂ x : Ratio} → F ≼ G → Within F x̂ x → Within G x̂ x
 within-≼ h p = record { low = p .low; high = ≼-trans (p .high) (⊗-mono (≼-refl _) h) }
 
+-- equal values
+pub within-≈ : {F y x y′ x′ : Ratio} → y ≈ y′ → x ≈ x′ → Within F y x → Within F y′ x′
+within-≈ d e p = record {
+  low = ≼-trans (≈-ge e) (≼-trans (p .low) (≈-le d));
+  high = ≼-trans (≈-ge d) (≼-trans (p .high) (⊗-mono (≈-le e) (≼-refl _)));
+}
+
 pub within-trans : {F G x ŷ y : Ratio} → Within F x ŷ → Within G ŷ y → Within (G ⊗ F) x y
 within-trans {F} {G} {y = y} p q = record {
   low = ≼-trans (q .low) (p .low);
