@@ -1,7 +1,7 @@
 -- Laws of a state's exits and of the indexes under which they stand in the table. Assumes nothing.
 use Prim.Native.Nat.{ℕ, suc, _+_, _≤_, _<_}
 use mathlib.Core.Path.{_≡_, refl, sym, ap, _∙_}
-use mathlib.Core.Bool.{Bool, true, false, not, _&&_, and-false}
+use mathlib.Core.Bool.{Bool, true, false, _&&_, and-false}
 use mathlib.Core.List.{List, [], _∷_, _++_, map, List·Memᴰ, append-nil}
 use native.Mathlib.Nat.{suc-add, add-suc, add-zero, zero-add}
 use native.Mathlib.Omega.{arith}
@@ -9,11 +9,12 @@ use lib.ListN.{length, getD, length-append}
 use lib.Seq.{getD-at, append-snoc}
 use lib.Dec.{eqb}
 use borrow.Author.Tests.{eqb-true, eq-eqb, ne-eqb}
-use Rattle.model.specs.Model.{Transition, Model, is-fast, only, any, leaves, exits-in, exits, has-fast}
+use Rattle.model.specs.Model.{Transition, is-fast, only, any, leaves, exits-in, has-fast}
 use Rattle.model.specs.Faults.{same-test, same-transition}
 use Rattle.model.specs.Index.{exit-indexes, no-transition}
-use Rattle.model.proofs.Valid.{Each, Valid}
-use Rattle.model.proofs.Members.{each-monotone, each-lookup, only-pass, only-fail, only-append, only-length, only-passes, only-from, only-keeps, only-split, each-only, any-none, any-some, some-any, some-count, any-only, lookup-map}
+use Rattle.model.proofs.Valid.{Each}
+use Rattle.model.proofs.Members.{each-monotone, each-lookup, only-pass, only-fail, only-append}
+use Rattle.model.proofs.Members.{only-length, only-passes, each-only, any-some, any-only, lookup-map}
 
 -- ---- exits
 
@@ -32,14 +33,6 @@ module _ (table : List Transition) (s : ℕ) where
   pub exits-fewer : length (exits-in table s) ≤ length table
   unfolding exits-in
   exits-fewer = only-length (leaves s) table
-
-  pub exit-from-table : {t : Transition} → List·Memᴰ t (exits-in table s) → List·Memᴰ t table
-  unfolding exits-in
-  exit-from-table = only-from (leaves s) table
-
-  pub table-to-exit : {t : Transition} → t .from ≡ s → List·Memᴰ t table → List·Memᴰ t (exits-in table s)
-  unfolding exits-in
-  table-to-exit {t} e = only-keeps (leaves s) table (eq-eqb (t .from) s e)
 
   pub exits-append : (rest : List Transition) → exits-in (table ++ rest) s ≡ exits-in table s ++ exits-in rest s
   unfolding exits-in
@@ -157,39 +150,11 @@ module _ (table : List Transition) (s : ℕ) where
       ∙ ap (λ (l : List ℕ). exit-indexes table 0 s ++ l) (index-fail t [] (0 + length table) s (ne-eqb (t .from) s n))
       ∙ append-nil (exit-indexes table 0 s)
 
--- ---- fast and slow exits
+-- ---- fast exits
 
 abbrev pub goes-fast : Transition → Bool
 goes-fast t = is-fast (t .manner)
 
-abbrev pub goes-slow : Transition → Bool
-goes-slow t = not (is-fast (t .manner))
-
-pub fast-slow-count : (ts : List Transition) → length (only goes-fast ts) + length (only goes-slow ts) ≡ length ts
-fast-slow-count = only-split goes-fast
-
 pub has-fast-member : (ts : List Transition) → has-fast ts ≡ true → (t : Transition) × List·Memᴰ t ts × (is-fast (t .manner) ≡ true)
 unfolding has-fast
 has-fast-member = any-some goes-fast
-
-pub fast-member : {t : Transition} {ts : List Transition} → List·Memᴰ t ts → is-fast (t .manner) ≡ true → has-fast ts ≡ true
-unfolding has-fast
-fast-member = some-any goes-fast
-
-pub no-fast-each : (ts : List Transition) → has-fast ts ≡ false → Each (λ t. is-fast (t .manner) ≡ false) ts
-unfolding has-fast
-no-fast-each = any-none goes-fast
-
--- as numbers: at least one exit is fast, and where one is slow the fast ones are one less at least
-pub has-fast-count : (ts : List Transition) → has-fast ts ≡ true → 1 ≤ length (only goes-fast ts)
-unfolding has-fast
-has-fast-count = some-count goes-fast
-
-pub slow-member-count : {t : Transition} (ts : List Transition) → List·Memᴰ t ts → is-fast (t .manner) ≡ false
-    → suc (length (only goes-fast ts)) ≤ length ts
-slow-member-count {t} ts k e = omega (arith, fast-slow-count ts, some-count goes-slow ts (some-any goes-slow k (ap not e)))
-
--- a state of a valid model that a slow exit leaves has at most 15 fast exits
-pub fast-exits-few : (m : Model) → Valid m → (s : ℕ) {t : Transition} → List·Memᴰ t (exits (m .net) s) → is-fast (t .manner) ≡ false
-    → length (only goes-fast (exits (m .net) s)) ≤ 15
-fast-exits-few m valid s k e = omega (arith, slow-member-count (exits (m .net) s) k e, valid .few-exits s)

@@ -12,7 +12,8 @@ use borrow.Author.Tests.{lt-ltb, le-ltb, ltb-false, eqb-true, ne-eqb, not-false}
 use Rattle.model.specs.Model.{Net, Model, is-empty, exits}
 use Rattle.model.specs.Words.{kind, from-field, to-field}
 use Rattle.model.specs.Faults.{Fault, outside, differs, transition-faults, end-faults}
-use Rattle.model.specs.Reading.{Answer, refused, granted, then, Reader, at-head, at-rate, at-mean, after-end, wrong, right, unless, next-transition, next, read-from, uneven, lowest-uneven, Finding, model-findings, caller-findings, first-of, read}
+use Rattle.model.specs.Reading.{Answer, refused, granted, then, Reader, at-head, at-rate, at-mean, after-end, wrong, right, unless}
+use Rattle.model.specs.Reading.{next-transition, next, read-from, uneven, lowest-uneven, Finding, model-findings, caller-findings, first-of, read}
 use Rattle.model.proofs.Valid.{Each}
 use Rattle.model.proofs.Members.{neither}
 
@@ -50,11 +51,6 @@ unless-here f fs r e = rw (e, unless)
 pub unless-past : (f : Fault) (fs : List Fault) (r : Reader) → f .holds ≡ false → unless (f ∷ fs) r ≡ unless fs r
 unfolding unless
 unless-past f fs r e = rw (e, unless)
-
-pub unless-none : (fs : List Fault) (r : Reader) → Each (λ f. f .holds ≡ false) fs → unless fs r ≡ right r
-unfolding unless Each
-unless-none [] r h = refl
-unless-none (f ∷ fs) r h = unless-past f fs r (h .0) ∙ unless-none fs r (h .1)
 
 pub unless-right : (fs : List Fault) (r r′ : Reader) → unless fs r ≡ right r′ → Each (λ f. f .holds ≡ false) fs × (r ≡ r′)
 unfolding unless Each
@@ -135,15 +131,6 @@ module _ (net : Net) where
   unfolding lowest-uneven
   lowest-later n s e = rw (e, lowest-uneven)
 
-  pub lowest-below : (n s : ℕ) → 1 ≤ s → lowest-uneven net n s < s + n
-  unfolding lowest-uneven
-  lowest-below zero s h = omega arith
-  lowest-below (suc n) s h = go (uneven net s) refl (lowest-below n (suc s) (omega arith))
-    where
-      go : (b : Bool) → uneven net s ≡ b → lowest-uneven net n (suc s) < suc s + n → lowest-uneven net (suc n) s < s + suc n
-      go true e below = omega (arith, lowest-here n s e)
-      go false e below = omega (arith, lowest-later n s e)
-
   -- it is 0 exactly if no state is uneven
   pub lowest-none : (n s : ℕ) → 1 ≤ s → lowest-uneven net n s ≡ 0 → (k : ℕ) → s ≤ k → k < s + n → uneven net k ≡ false
   lowest-none zero s h z k low high = absurd (omega arith)
@@ -155,11 +142,6 @@ module _ (net : Net) where
       go true e d below = absurd (omega (arith, lowest-here n s e))
       go false e (yes above) below = below (sym (lowest-later n s e) ∙ z) k above (omega arith)
       go false e (no here) below = let q : k ≡ s = omega arith in rw q e
-
-  pub lowest-zero : (n s : ℕ) → ((k : ℕ) → s ≤ k → k < s + n → uneven net k ≡ false) → lowest-uneven net n s ≡ 0
-  unfolding lowest-uneven
-  lowest-zero zero s h = refl
-  lowest-zero (suc n) s h = lowest-later n s (h s (omega arith) (omega arith)) ∙ lowest-zero n (suc s) (λ k low high. h k (omega arith) (omega arith))
 
 -- ---- the answer, by what was found first
 
@@ -254,9 +236,6 @@ read-granted ws budget m e =
           none-uneven = le-zero (ltb-false 0 (lowest-uneven (m .net) (m .states) 1) (tests .0));
           start-exits = tests .1 .0;
         }
-
-pub read-words : (ws : List ℕ) (budget : ℕ) (m : Model) → read ws budget ≡ granted m → length ws ≤ 16005
-read-words ws budget m e = (read-granted ws budget m e) .words-few
 
 pub read-budget : (ws : List ℕ) (budget : ℕ) (m : Model) → read ws budget ≡ granted m → (1 ≤ budget) × (budget ≤ 1000000)
 read-budget ws budget m e = ((read-granted ws budget m e) .budget-low, (read-granted ws budget m e) .budget-high)
