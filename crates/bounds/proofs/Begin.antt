@@ -1,16 +1,16 @@
 -- Before the walk: an accepted reading describes a valid model, and what is made of its first four words lets the tables be filled and the walk
 -- begin at the start. Assumes nothing.
-use Prim.Native.Nat.{ℕ, zero, suc, _+_, _≤_, _<_}
+use Prim.Native.Nat.{ℕ, _≤_, _<_}
 use mathlib.Core.Path.{_≡_, refl, sym, ap, ap₂, _∙_, subst}
-use mathlib.Core.List.{List, [], _∷_}
+use mathlib.Core.List.{List}
 use native.Mathlib.Omega.{arith}
 use native.Mathlib.Nat.{le-trans, add-zero}
 use lib.Dec.{lit≤}
-use lib.ListN.{length, getD, set, replicate}
+use lib.ListN.{length, set, replicate}
 use Rattle.figure.specs.declared.Figure.{Figure}
 use Rattle.figure.specs.Operations.{of-whole}
 use Rattle.model.specs.declared.Accepted.{Accepted}
-use Rattle.model.specs.Model.{Net, Limits, Model}
+use Rattle.model.specs.Model.{Model}
 use Rattle.model.specs.Reading as reading
 use Rattle.model.specs.declared.Refusal.{Refusal}
 use Rattle.model.specs.declared.Reading.{Reading}
@@ -22,14 +22,14 @@ use Rattle.model.proofs.ReadValid.{read-valid}
 use Rattle.model.proofs.Refusals.{read-reads, read-budget}
 use Rattle.tree.specs.States.{figure-of}
 use Rattle.tree.specs.Tree.{tree, Visit}
-use Rattle.tree.proofs.Carried.{Carried, Carries, at-start, start-carries, carried-visits, carried-tree}
+use Rattle.tree.proofs.Carried.{at-start, start-carries, carried-visits, carried-tree}
 use Rattle.tree.proofs.Ranges.{total-none}
 use Rattle.bounds.specs.declared.walk.Task.{Task}
 use Rattle.bounds.specs.declared.walk.Tip.{Tip}
 use Rattle.bounds.specs.declared.walk.Totals.{Totals}
-use Rattle.bounds.specs.Tables.{Indexes, StateTables, StepReady, StepTables, Classed, Tabled, described, net-of, sum-to}
-use Rattle.bounds.specs.Deaths.{path-of, Known}
-use Rattle.bounds.specs.Walk.{TaskOf, Counted, Ready, Ends, carried-of, nothing-yet, totals-of}
+use Rattle.bounds.specs.Tables.{Indexes, StateTables, StepReady, StepTables, Tabled, described, sum-to}
+use Rattle.bounds.specs.Deaths.{path-of}
+use Rattle.bounds.specs.Walk.{Counted, Ready, Ends, carried-of, nothing-yet}
 use Rattle.bounds.proofs.TransitionCount.{count-is}
 
 -- ---- an accepted reading

@@ -1,6 +1,6 @@
 -- The totals that a walk keeps are operands, as long as their steps are within the greatest budget, and stay in range with one path more. Assumes
 -- nothing.
-use Prim.Native.Nat.{ℕ, _+_, _≤_, _<_}
+use Prim.Native.Nat.{_+_, _≤_, _<_}
 use mathlib.Core.Path.{_≡_, refl, ap, ap₂}
 use native.Mathlib.Nat.{le-trans}
 use lib.Dec.{lit≤}
@@ -8,7 +8,7 @@ use native.Mathlib.Omega.{arith}
 use Rattle.figure.specs.declared.Figure.{Figure}
 use Rattle.figure.specs.Operands.{Sized, Operand}
 use Rattle.figure.specs.Operations.{total-up, total-down}
-use Rattle.tree.proofs.Ranges.{Total, total-up-more, total-down-more, total-same, total-operand}
+use Rattle.tree.proofs.Ranges.{total-up-more, total-down-more, total-same, total-operand}
 use Rattle.tree.proofs.Tally.{with-step, with-cut, with-death}
 use Rattle.bounds.specs.declared.walk.Totals.{Totals}
 use Rattle.bounds.specs.Walk.{Counted, totals-of}

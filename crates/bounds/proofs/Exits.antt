@@ -1,5 +1,5 @@
 -- An exit of the tip's state as the code reads it: by its slot, its word and the tables. Assumes nothing.
-use Prim.Native.Nat.{ℕ, _+_, _*_, _≤_, _<_}
+use Prim.Native.Nat.{ℕ, _+_, _*_, _<_}
 use mathlib.Core.Path.{_≡_, refl, sym, ap, _∙_}
 use mathlib.Core.Bool.{Bool}
 use mathlib.Core.List.{List}
@@ -19,7 +19,7 @@ use Rattle.tree.specs.Upper.{share}
 use Rattle.tree.proofs.Ranges.{share-sized, mean-up-sized, mission-time-sized}
 use Rattle.bounds.specs.declared.walk.Tip.{Tip}
 use Rattle.bounds.specs.Tables.{unpacked, net-of, class-number, class-code}
-use Rattle.bounds.specs.Walk.{tip-by, tip-after, ExitReady, ExitOf}
+use Rattle.bounds.specs.Walk.{tip-by, ExitReady, ExitOf}
 use Rattle.bounds.proofs.Classes.{step-valid, place-inside, origin-low, origin-high, origin-small, class-read}
 use Rattle.bounds.proofs.Tips.{tip-by-transition}
 

@@ -1,5 +1,5 @@
 -- One visit noted in the totals, by what becomes of its path. Assumes nothing.
-use mathlib.Core.Path.{_≡_, refl, sym, ap, _∙_}
+use mathlib.Core.Path.{_≡_, sym, ap, _∙_}
 use mathlib.Core.Bool.{true, false, true≢false}
 use mathlib.Core.List.{List, _∷_}
 use Prim.Native.Nat.{ℕ}

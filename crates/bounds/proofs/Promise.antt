@@ -1,14 +1,13 @@
 -- From an answer that is the definition's to all that the entry point promises. Assumes nothing.
-use Prim.Native.Nat.{ℕ, _+_, _≤_, _<_}
+use Prim.Native.Nat.{ℕ, _≤_, _<_}
 use mathlib.Core.Path.{_≡_, refl, sym, ap, _∙_, subst}
-use mathlib.Core.Bool.{Bool, true, false}
+use mathlib.Core.Bool.{true, false}
 use mathlib.Core.List.{List}
-use mathlib.Core.Logic.{_⊎_, inl, inr, ⊎-elim}
 use native.Mathlib.Decide.{decLe}
-use native.Mathlib.Nat.{lt-of-not-le, not-le-of-lt}
+use native.Mathlib.Nat.{lt-of-not-le}
 use lib.Dec.{ltb}
 use lib.ListN.{length}
-use Rattle.model.specs.Model.{Net, Limits, Model}
+use Rattle.model.specs.Model.{Model}
 use Rattle.model.specs.Reading as reading
 use Rattle.model.specs.declared.Refusal.{Refusal}
 use Rattle.model.specs.declared.Refusal.the-variants.{OverBudget}

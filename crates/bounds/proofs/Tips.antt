@@ -1,8 +1,7 @@
 -- U and the tip of a path one step further: the figures on the way are in range, and the results go by the class of the step. Assumes nothing.
 use Prim.Native.Nat.{ℕ, _+_, _≤_, _<_}
-use mathlib.Core.Path.{_≡_, refl, sym, ap, _∙_}
+use mathlib.Core.Path.{_≡_, sym, ap}
 use native.Mathlib.Nat.{le-trans, add-comm, zero-add}
-use native.Mathlib.Omega.{arith}
 use lib.Dec.{lit≤}
 use borrow.Author.Tests.{eq-eqb, ne-eqb}
 use Rattle.figure.specs.declared.Figure.{Figure}

@@ -1,17 +1,17 @@
 -- The exits of the states 1 to N are the transitions of a table whose transitions leave these states. Assumes nothing.
 use Prim.Native.Nat.{ℕ, zero, suc, _+_, _≤_, _<_}
-use mathlib.Core.Path.{_≡_, refl, sym, ap, ap₂, _∙_}
+use mathlib.Core.Path.{_≡_, refl, ap₂, _∙_}
 use mathlib.Core.Bool.{Bool, true, false}
 use mathlib.Core.List.{List, [], _∷_}
 use native.Mathlib.Omega.{arith}
 use native.Mathlib.Decide.{ℕ-discrete}
 use native.Mathlib.Nat.{le-of-suc-le-suc}
 use lib.Arith.{lt-of-le-ne}
-use lib.ListN.{length, getD}
+use lib.ListN.{length}
 use lib.Dec.{eqb}
 use borrow.Author.Tests.{eq-eqb, ne-eqb}
-use Rattle.model.specs.Model.{Transition, Net, Model, leaves, only, exits-in, exits}
-use Rattle.model.proofs.Valid.{Each, ValidTransition, Valid}
+use Rattle.model.specs.Model.{Transition, leaves, only, exits-in}
+use Rattle.model.proofs.Valid.{Each, ValidTransition}
 use Rattle.model.proofs.Members.{each-monotone}
 use Rattle.tree.specs.Paths.{one-if}
 use Rattle.bounds.specs.Tables.{Indexes, described, net-of, sum-to}

@@ -19,12 +19,12 @@ use Rattle.model.proofs.Valid.{Each, ValidTransition, Valid}
 use Rattle.model.proofs.Members.{is-empty-length}
 use Rattle.model.proofs.Slots.{slot-below, slot-exit, slot-leaves}
 use Rattle.tree.specs.Lower.{lower}
-use Rattle.tree.specs.Tree.{Outcome, is-death, is-continued, Visit}
+use Rattle.tree.specs.Tree.{Outcome, is-death, is-continued}
 use Rattle.tree.proofs.Outcomes.{is-continued-true}
 use Rattle.tree.proofs.Ranges.{any-upper-sized, prune-sized}
 use Rattle.tree.proofs.Tally.{with-step, with-cut, with-death, noted, with-visit}
 use Rattle.tree.proofs.Carried.{Carried, Carries, carry, carry-upper, carry-carries, outcome-by, outcome-next, GoesOnBy, continued-by}
-use Rattle.tree.proofs.Going.{Walked, exit-totals, exit-within, exit-ended, exit-back, exit-below-over}
+use Rattle.tree.proofs.Going.{exit-totals, exit-within, exit-ended, exit-back, exit-below-over}
 use Rattle.bounds.specs.declared.visit.Outcome.{Outcome as Coded}
 use Rattle.bounds.specs.declared.walk.Task.{Task}
 use Rattle.bounds.specs.declared.walk.Tip.{Tip}

@@ -2,7 +2,7 @@
 -- this page. Assumes nothing: these are definitions.
 use Prim.Native.Nat.{ℕ, zero, suc, _+_, _≤_, _<_}
 use mathlib.Core.Path.{_≡_}
-use mathlib.Core.Bool.{Bool, true, false}
+use mathlib.Core.Bool.{true, false}
 use mathlib.Core.List.{List, [], _∷_}
 use lib.ListN.{length, getD}
 use lib.Dec.{leb, eqb}
@@ -12,9 +12,8 @@ use Rattle.figure.specs.Operands.{Sized}
 use Rattle.figure.specs.Operations.{times-up, times-down, minus-down, divided-up, divided-down, of-whole}
 use Rattle.model.specs.Model.{Transition, Net}
 use Rattle.model.specs.Index.{transition}
-use Rattle.tree.specs.Paths.{Path, Class, class1, class2, class3, class, counts-1, class1-count}
+use Rattle.tree.specs.Paths.{Path, Class, class, counts-1, class1-count}
 use Rattle.tree.specs.States.{rate-sum}
-use Rattle.tree.specs.Upper.{share}
 use Rattle.tree.specs.Grains.{grains, grains-in, grain-sum}
 use Rattle.tree.specs.Lower.{lower-product, add-rates, path-rate-sum, remaining-time}
 use Rattle.bounds.specs.declared.lower.Shared.{Shared}

@@ -1,5 +1,5 @@
 -- The search for the least number of grains: what its parts say. No public contract cites this page. Assumes nothing: these are definitions.
-use Prim.Native.Nat.{ℕ, _^_, _≤_, _<_}
+use Prim.Native.Nat.{ℕ, _^_, _<_}
 use mathlib.Core.Path.{_≡_}
 use mathlib.Core.Bool.{Bool, true, false}
 use lib.Dec.{leb}

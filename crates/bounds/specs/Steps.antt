@@ -7,7 +7,7 @@ use Rattle.figure.specs.declared.Figure.{Figure}
 use Rattle.figure.specs.Rounding.{none}
 use Rattle.figure.specs.Operations.{times-up, times-down, plus-up, minus-down, divided-up, times-ten, of-whole}
 use Rattle.model.specs.Model.{Manner, slow, fast, Transition, Net}
-use Rattle.tree.specs.Paths.{Class, class1, class2, class3, class}
+use Rattle.tree.specs.Paths.{class}
 use Rattle.tree.specs.States.{figure-of, second-moment}
 use Rattle.tree.specs.Upper.{share}
 use Rattle.tree.specs.Grains.{least, grains}

@@ -1,16 +1,15 @@
 -- What the tables hold that are worked out once for each state and each transition. No public contract cites this page. Assumes nothing: these are
 -- definitions.
-use Prim.Native.Nat.{ℕ, zero, suc, _+_, _*_, _/_, _%_, _≤_, _<_}
+use Prim.Native.Nat.{ℕ, zero, suc, _+_, _/_, _%_, _≤_, _<_}
 use mathlib.Core.Path.{_≡_}
 use mathlib.Core.Bool.{Bool, true, false}
-use mathlib.Core.List.{List, [], _∷_, foldl}
+use mathlib.Core.List.{List, []}
 use lib.ListN.{length, getD}
-use lib.IntN.{ℤ, pos, _-ℤ_}
+use lib.IntN.{pos, _-ℤ_}
 use Rattle.figure.specs.declared.Figure.{Figure}
 use Rattle.figure.specs.Rounding.{figure, none}
 use Rattle.figure.specs.Operands.{Sized}
-use Rattle.model.specs.declared.Quantity.{Quantity}
-use Rattle.model.specs.Model.{Manner, slow, fast, Transition, Net, Model, exits}
+use Rattle.model.specs.Model.{Manner, Transition, Net, Model}
 use Rattle.model.specs.Words.{quantity}
 use Rattle.model.specs.Reading.{Answer, refused, granted, at-head, read-from, empty-model}
 use Rattle.model.specs.Index.{Indexed, Stands, transition}

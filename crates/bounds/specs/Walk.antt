@@ -1,8 +1,8 @@
 -- What the walk is handed, keeps and hands back. No public contract cites this page. Assumes nothing: these are definitions.
-use Prim.Native.Nat.{ℕ, zero, suc, _+_, _*_, _≤_, _<_}
+use Prim.Native.Nat.{ℕ, _+_, _*_, _≤_, _<_}
 use mathlib.Core.Path.{_≡_}
-use mathlib.Core.Bool.{Bool, true, false}
-use mathlib.Core.List.{List, [], _∷_}
+use mathlib.Core.Bool.{true, false}
+use mathlib.Core.List.{List}
 use lib.ListN.{length, getD}
 use lib.Dec.{leb, ltb, eqb}
 use Rattle.figure.specs.declared.Figure.{Figure}
@@ -10,9 +10,9 @@ use Rattle.figure.specs.Rounding.{none}
 use Rattle.figure.specs.Operands.{Sized}
 use Rattle.figure.specs.Operations.{times-up, divided-up, of-whole, at-or-below}
 use Rattle.figure.proofs.Gathered.{Gathered}
-use Rattle.model.specs.Model.{Transition, Net, Limits, Model, exits, has-fast}
+use Rattle.model.specs.Model.{Transition, Net, Model, exits, has-fast}
 use Rattle.model.specs.Index.{transition}
-use Rattle.tree.specs.Paths.{Path, Class, class1, class2, class3, class, counts-1, class1-count}
+use Rattle.tree.specs.Paths.{Path, Class, class1, class3, class, counts-1}
 use Rattle.tree.specs.States.{mission-time, figure-of}
 use Rattle.tree.specs.Upper.{upper-step, upper}
 use Rattle.tree.specs.Grains.{class3-grains}

@@ -1,5 +1,5 @@
 -- `unreliability` meets its contract: its answer is the definition's, whether the reading or the walk refuses or a report is made. Assumes nothing.
-use mathlib.Core.Path.{_≡_, refl, sym, ap, _∙_}
+use mathlib.Core.Path.{refl}
 use native.Mathlib.Nat.{le-trans}
 use borrow.Author.Needs.{needs}
 use borrow.Author.Tests.{lt-ltb, le-ltb}

@@ -1,7 +1,6 @@
 -- `walked` meets its contract: the tables are filled with the model's values, and the walk from the start goes over the cut tree. Assumes nothing.
-use mathlib.Core.Path.{_≡_, refl, sym}
+use mathlib.Core.Path.{refl}
 use borrow.Author.Needs.{needs}
-use native.Mathlib.Omega.{arith}
 use Rattle.bounds.proofs.Begin.{states-are, states-few, start-below, time-scale, prune-scale, step-ready, count-all, walk-ready, walk-tree}
 use Rattle.bounds.proofs.walked.Statement.{statement}
 use Rattle.bounds.proofs.walked.Tie as tie
