@@ -11,7 +11,7 @@ use std::time::{Duration, Instant};
 
 const BUDGET: u64 = 1_000_000;
 /// Each program runs a model at least so often, and all three together at least so long.
-const LEAST_RUNS: usize = 5;
+const LEAST_RUNS: usize = 15;
 const LEAST_TIME: Duration = Duration::from_millis(1_500);
 
 /// The least time that each program took, in seconds, and the steps that were walked.

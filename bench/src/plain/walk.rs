@@ -64,6 +64,7 @@ impl Walk<'_> {
     /// Walks every exit of a state that a path of `len` steps has reached, `ones` of them of class 1; false where the budget is spent.
     fn every_exit(&mut self, state: usize, upper: Figure, ones: u64, len: usize) -> bool {
         let model = self.model;
+        let nth = Figure::whole(ones + 1);
         let mut shared: Option<Shared> = None;
         for &exit in &model.exits[state] {
             if self.steps == self.budget {
@@ -72,10 +73,10 @@ impl Walk<'_> {
             self.steps += 1;
             let step = self.tables.steps[exit as usize];
             let (to, ones) = (step.to as usize, ones + u64::from(step.class == 1));
-            let upper = self.further(&step, upper, ones);
+            let upper = self.further(&step, upper, nth);
             let before = self.entered[to];
             if model.exits[to].is_empty() {
-                let lower = self.lower_of(&step, ones, len, &mut shared);
+                let lower = self.lower_of(&step, nth, ones, len, &mut shared);
                 self.lower = self.lower.total::<DOWN>(lower);
                 self.died = self.died.total::<UP>(upper);
                 self.deaths += 1;
@@ -97,18 +98,26 @@ impl Walk<'_> {
         true
     }
 
-    /// U one step further; the step is the `ones`-th of class 1 if it is of class 1.
-    fn further(&self, step: &Step, upper: Figure, ones: u64) -> Figure {
+    /// U one step further; the step is the `nth` of class 1 if it is of class 1.
+    fn further(&self, step: &Step, upper: Figure, nth: Figure) -> Figure {
         let upper = upper.times::<UP>(step.share);
         match step.class {
-            1 => upper.times::<UP>(self.model.time).over::<UP>(Figure::whole(ones)),
+            1 => upper.times::<UP>(self.model.time).over::<UP>(nth),
             2 => upper,
             _ => upper.times::<UP>(self.tables.states[step.from as usize].mean),
         }
     }
 
-    /// The lower of a death path whose last step is `step`, after the first `len` steps of the path.
-    fn lower_of(&self, step: &Step, ones: u64, len: usize, kept: &mut Option<Shared>) -> Figure {
+    /// The lower of a death path whose last step is `step`, the `nth` of class 1 if it is of class 1, after the first `len` steps of the path; `ones`
+    /// counts the class 1 steps with it.
+    fn lower_of(
+        &self,
+        step: &Step,
+        nth: Figure,
+        ones: u64,
+        len: usize,
+        kept: &mut Option<Shared>,
+    ) -> Figure {
         let shared = match (*kept, step.class) {
             (Some(shared), 1 | 3) => shared,
             (None, 1 | 3) => *kept.insert(self.shared(step, ones, len)),
@@ -117,16 +126,16 @@ impl Walk<'_> {
         let Some(shared) = shared else {
             return Figure::ZERO;
         };
-        let product = self.factor(step, shared.product, shared.time, ones);
+        let product = self.factor(step, shared.product, shared.time, nth);
         product.times::<DOWN>(shared.last)
     }
 
-    /// The product with one step more, `time` being down(t).
-    fn factor(&self, step: &Step, product: Figure, time: Figure, ones: u64) -> Figure {
+    /// The product with one step more, `time` being down(t); the step is the `nth` of class 1 if it is of class 1.
+    fn factor(&self, step: &Step, product: Figure, time: Figure, nth: Figure) -> Figure {
         if step.class != 1 {
             return product.times::<DOWN>(step.factor);
         }
-        product.times::<DOWN>(step.share).times::<DOWN>(time).over::<DOWN>(Figure::whole(ones))
+        product.times::<DOWN>(step.share).times::<DOWN>(time).over::<DOWN>(nth)
     }
 
     fn shared(&self, last: &Step, ones: u64, len: usize) -> Shared {
@@ -149,7 +158,7 @@ impl Walk<'_> {
         let (mut product, mut k) = (Figure::ONE, 0);
         for step in path() {
             k += u64::from(step.class == 1);
-            product = self.factor(step, product, time, k);
+            product = self.factor(step, product, time, Figure::whole(k));
         }
         Some(SharedFactors { time, product, last: Figure::ONE.minus(loss) })
     }
