@@ -106,10 +106,10 @@ static void check(uint64_t digits, int32_t power)
 /* ---- Figures at a double */
 
 /*
- * Figures that lie within x / 2^64 of a double x, and are none: rounded to 64 bits on the way, as by long double, they would be x, and the double
- * on the other side of x would be missed. They are the nearest that there are. With 10^power * 2^-scale = a, a figure digits * 10^power lies near
- * the double whole * 2^scale where whole / digits lies near a, and so these are convergents of the continued fraction of a, for each power and
- * scale, that have nine digits below and 53 bits above.
+ * Figures that lie within x / 2^64 of a double x and are none. Rounded to 64 bits on the way, as by long double, such a figure is x itself, and x
+ * would then stand for both its bounds. They were found by continued fractions: with a = 10^power / 2^scale, the figure digits * 10^power lies near
+ * the double whole * 2^scale where whole / digits lies near a, so whole / digits is a convergent of a, or one with both parts multiplied by the
+ * same small number, that has nine digits below and 53 bits above. For each power and scale the convergents were listed, and the nearest kept.
  */
 static const struct {
     uint64_t digits;
@@ -139,7 +139,7 @@ static const struct {
     { 784853891, 229, 0x1.348e02b28315ap+790 },
 };
 
-/* The figure lies on its side of x, so near, and x is the one of its two doubles, the next on the figure's side the other. */
+/* The figure lies on its side of x, so near. One of its two doubles is x, the other the next on the figure's side. */
 static void check_near(uint64_t digits, int32_t power, double x, int above)
 {
     bounds_figure f = { digits, power };
@@ -176,7 +176,10 @@ static void same(double x, double y)
 
 int main(void)
 {
-    static const uint64_t edges[] = { 100000000, 100000001, 123456789, 500000000, 999999999, 179769313, 179769314, 494065645, 494065646, 222507385, 222507386, 1, 2, 5, 1ull << 53, (1ull << 53) + 1, UINT64_MAX };
+    static const uint64_t edges[] = {
+        100000000, 100000001, 123456789, 500000000, 999999999, 179769313, 179769314, 494065645, 494065646,
+        222507385, 222507386, 1, 2, 5, 1ull << 53, (1ull << 53) + 1, UINT64_MAX,
+    };
     for (size_t i = 0; i < sizeof edges / sizeof edges[0]; i++)
         for (int32_t power = -360; power <= 312; power++)
             check(edges[i], power);
