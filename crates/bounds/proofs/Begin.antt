@@ -105,7 +105,8 @@ module _ {ws slots counts places : List ℕ} (ready : Indexes ws slots counts pl
       pub count-all : count ≡ length (m .net .table)
       count-all = count-is-sum ∙ ap (sum-to counts) states-are ∙ count-is ready
 
-      module _ {shares grain-counts factors : List ℕ} (steps : StepTables (m .net) count shares grain-counts factors) {level u : Figure} (level-is : level ≡ figure-of (a .prune)) (one : u ≡ of-whole 1) (budget : ℕ) (few : budget ≤ 1000000) where
+      module _ {shares grain-counts factors : List ℕ} (steps : StepTables (m .net) count shares grain-counts factors) {level u : Figure}
+          (level-is : level ≡ figure-of (a .prune)) (one : u ≡ of-whole 1) (budget : ℕ) (few : budget ≤ 1000000) where
         abbrev task : Task
         task = record { time = time; level = level; entries = a .entries; budget = budget }
 
@@ -131,7 +132,12 @@ module _ {ws slots counts places : List ℕ} (ready : Indexes ws slots counts pl
           walk-ready = record {
             indexes = ready;
             tabled = tabled;
-            task-is = record { time-is = step-ready .time-is; level-is = level-is ∙ ap (λ (x : Accepted). figure-of (x .prune)) is; entries-are = ap (λ (x : Accepted). x .entries) is; budget-high = few };
+            task-is = record {
+              time-is = step-ready .time-is;
+              level-is = level-is ∙ ap (λ (x : Accepted). figure-of (x .prune)) is;
+              entries-are = ap (λ (x : Accepted). x .entries) is;
+              budget-high = few;
+            };
             known = record { short = omega arith; inside = λ i h. absurd (omega arith) };
             carries = rw (at-the-start l) (start-carries (m .net) (omega (arith, ready .valid .start-high, ready .valid .states-high)));
             state-low = rw is (ready .valid .start-low);
@@ -143,7 +149,9 @@ module _ {ws slots counts places : List ℕ} (ready : Indexes ws slots counts pl
           }
 
           -- and the walk from there is the one over the tree
-          pub walk-tree : {r : Totals} → Ends (m .net) budget totals (carried-visits (m .net) (m .limits) (a .steps) (carried-of (m .net) l tip entered)) r → Ends (m .net) budget nothing-yet (tree (m .net) (m .limits)) r
+          pub walk-tree : {r : Totals}
+              → Ends (m .net) budget totals (carried-visits (m .net) (m .limits) (a .steps) (carried-of (m .net) l tip entered)) r
+              → Ends (m .net) budget nothing-yet (tree (m .net) (m .limits)) r
           walk-tree {r} ends =
               let e : carried-visits (m .net) (m .limits) (a .steps) (carried-of (m .net) l tip entered) ≡ tree (m .net) (m .limits) =
               ap₂ (carried-visits (m .net) (m .limits)) (ap (λ (x : Accepted). x .steps) is) (at-the-start l) ∙ carried-tree m (ready .valid) in

@@ -73,4 +73,6 @@ module _ {ws slots counts places : List ℕ} (ready : Indexes ws slots counts pl
   pub count-is : sum-to counts ((described ws) .states) ≡ length (net-of ws .table)
   count-is =
       sums ((described ws) .states) (ready .valid .states-high)
-      ∙ all-exits ((described ws) .states) (net-of ws .table) (each-monotone (ValidTransition ((described ws) .states)) (λ t. (1 ≤ t .from) × (t .from ≤ (described ws) .states)) (λ t v. (v .from-low, v .from-high)) (net-of ws .table) (ready .valid .table))
+      ∙ all-exits ((described ws) .states) (net-of ws .table)
+      (each-monotone (ValidTransition ((described ws) .states)) (λ t. (1 ≤ t .from) × (t .from ≤ (described ws) .states))
+      (λ t v. (v .from-low, v .from-high)) (net-of ws .table) (ready .valid .table))

@@ -45,7 +45,8 @@ walk-requires c κs =
     let s = x .before .before .before .before .before .before .before in
     let f = s .before .before .before .before .before .before in
     let h = f .before .before .before .before .before .pre in
-    walk-ready (h .0) (h .1) (s .fill-states .ensures) (f .figure-of .ensures) (f .before .transition-count .ensures) (x .fill-steps .ensures) (s .before .before .before .before .before .figure-of2 .ensures) (w .of-whole .ensures) _ (h .2) _ (c .nothing .ensures)
+    walk-ready (h .0) (h .1) (s .fill-states .ensures) (f .figure-of .ensures) (f .before .transition-count .ensures) (x .fill-steps .ensures)
+    (s .before .before .before .before .before .figure-of2 .ensures) (w .of-whole .ensures) _ (h .2) _ (c .nothing .ensures)
 
 returns : tie.Need-returns
 returns c =
@@ -54,8 +55,11 @@ returns c =
     let x = w .before in
     let s = x .before .before .before .before .before .before .before in
     let f = s .before .before .before .before .before .before in
-    let h = f .before .before .before .before .before .pre in
-    (walk-tree (h .0) (h .1) (s .fill-states .ensures) (f .figure-of .ensures) (f .before .transition-count .ensures) (x .fill-steps .ensures) (s .before .before .before .before .before .figure-of2 .ensures) (w .of-whole .ensures) _ (h .2) _ (n .nothing .ensures) (c .walk .ensures .0), c .walk .ensures .1)
+    let h = f .before .before .before .before .before .pre in (
+      walk-tree (h .0) (h .1) (s .fill-states .ensures) (f .figure-of .ensures) (f .before .transition-count .ensures) (x .fill-steps .ensures)
+          (s .before .before .before .before .before .figure-of2 .ensures) (w .of-whole .ensures) _ (h .2) _ (n .nothing .ensures) (c .walk .ensures .0),
+      c .walk .ensures .1,
+    )
 
 pub walked-spec : {M : Type 1} → statement M
 walked-spec =

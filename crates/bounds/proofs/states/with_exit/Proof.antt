@@ -10,7 +10,8 @@ use Rattle.figure.specs.Operands.{Sized}
 use Rattle.figure.proofs.Sized.{sized-≤, times-up-sized, times-down-sized, plus-up-sized}
 use Rattle.model.specs.Words.{kind}
 use Rattle.model.specs.Index.{transition-at}
-use Rattle.bounds.proofs.Firsts.{FastRead, SlowRead, first-long, first-long-fast, fast-1, fast-2, fast-3, fast-read, slow-1, slow-read, mean-sized, deviation-sized, probability-sized, rate-sized}
+use Rattle.bounds.proofs.Firsts.{FastRead, SlowRead, first-long, first-long-fast, fast-1, fast-2, fast-3, fast-read, slow-1, slow-read}
+use Rattle.bounds.proofs.Firsts.{mean-sized, deviation-sized, probability-sized, rate-sized}
 use Rattle.bounds.proofs.StateSums.{with-fast, with-slow}
 use Rattle.bounds.proofs.states.with_exit.Statement.{statement}
 use Rattle.bounds.proofs.states.with_exit.Tie as tie

@@ -142,8 +142,8 @@ zero-requires c κs = search needs
 
 returns-2 : tie.Need-returns-2
 returns-2 c = let e = c .before .before .before .before .before .before .before in let w = found-place (e .before) in
-    found-lone (start w .pre .0) (placed w) (leaves (e .before .before .before .before)) (e .before .before .unpack .ensures) (not-seven e) (c .before .before .before .before .before .unpack2 .ensures)
-    (c .before .before .before .if2 .taken) (c .before .figure-at .ensures) (c .zero .ensures)
+    found-lone (start w .pre .0) (placed w) (leaves (e .before .before .before .before)) (e .before .before .unpack .ensures) (not-seven e)
+    (c .before .before .before .before .before .unpack2 .ensures) (c .before .before .before .if2 .taken) (c .before .figure-at .ensures) (c .zero .ensures)
 
 mul-unpack-3 : tie.Need-mul-unpack-3
 mul-unpack-3 c = search needs

@@ -101,7 +101,8 @@ exit-loop t c = c .before .before .before .before .before
 abbrev loop-begin : (t : ℕ) (c : AtLoop t) → walk-lts.Start (claims t) (walk-at t) walk.Post walk-Inv-loop walk-μ-loop
 loop-begin t c = c .before .before .before .before .before .before .before .before .before
 
-more-at : (t : ℕ) (c : walk-lts.In-loop (claims t) (walk-at t) walk.Post walk-Inv-loop walk-μ-loop) → c .before .loop .i < getD ((loop-begin t (c .before)) .args .counts .now) ((loop-begin t (c .before)) .args .tip .state) 0
+more-at : (t : ℕ) (c : walk-lts.In-loop (claims t) (walk-at t) walk.Post walk-Inv-loop walk-μ-loop)
+    → c .before .loop .i < getD ((loop-begin t (c .before)) .args .counts .now) ((loop-begin t (c .before)) .args .tip .state) 0
 more-at t c = omega (arith, c .before .before .small .ensures .0, c .loop-test .taken)
 
 abbrev TurnAt : (t : ℕ) (c : ExitRead t) → Type 0
