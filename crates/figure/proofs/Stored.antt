@@ -2,14 +2,12 @@
 -- -(n + 1). Assumes nothing.
 use mathlib.Core.Path.{_≡_, sym, _∙_, ap, ap₂}
 use mathlib.Core.Bool.{Bool, true, false, not, cond, true≢false}
-use mathlib.Core.List.{List, [], _∷_}
-use Prim.Native.Nat.{ℕ, zero, suc, suc-le-suc, _+_, _-_, _^_, _≤_, _<_}
-use native.Mathlib.Nat.{le-trans, le-of-lt, not-suc-le-zero}
+use Prim.Native.Nat.{ℕ, zero, suc, suc-le-suc, _+_, _-_, _≤_}
+use native.Mathlib.Nat.{le-trans, le-of-lt}
 use native.Mathlib.Omega.{arith}
 use lib.Arith.{le→nltb}
 use lib.Dec.{T, ltb, leb→le, le→leb, lit≤}
 use lib.IntN.{ℤ, pos, negsuc, negℤ, natAbs, subℕ, _+ℤ_, _-ℤ_}
-use lib.ListN.{getD}
 use lib.Signed.{mag, leZ, nonNeg, _≤ℤ_, pos-natAbs}
 use mir.Facts.{toZ-ofZ, fits-natAbs}
 use mir.Syntax.{w32, w64}
@@ -130,18 +128,3 @@ module _ (p q : ℤ) (hp : mag p ≤ 1000000000) (hq : mag q ≤ 1000000000) whe
 
   pub out-of-order : leZ (stored q) (stored p) ≡ false → p ≤ℤ q
   out-of-order h = record { le = turned p q (sym read-test ∙ h) }
-
--- ---- the table of powers of ten
-
-unfoldable pub tens : ℕ → ℕ → List ℕ
-tens zero j = []
-tens (suc n) j = 10 ^ j ∷ tens n (suc j)
-
-tens-at : (n j k : ℕ) → k < n → getD (tens n j) k 0 ≡ 10 ^ (j + k)
-unfolding tens
-tens-at zero j k h = absurd (not-suc-le-zero h)
-tens-at (suc n) j zero h = ap (λ m. 10 ^ m) (omega arith)
-tens-at (suc n) j (suc k) h = tens-at n (suc j) k (omega arith) ∙ ap (λ m. 10 ^ m) (omega arith)
-
-pub table-at : (k : ℕ) → k < 20 → getD (tens 20 0) k 0 ≡ 10 ^ k
-table-at k h = tens-at 20 0 k h ∙ ap (λ m. 10 ^ m) (omega arith)
