@@ -19,32 +19,6 @@ const TENS: [u64; 20] = {
     tens
 };
 
-/// Ten to a power that is not known beforehand, in arms as in the proved library, so that the compiler can divide by constants.
-fn ten_to(k: usize) -> u64 {
-    match k {
-        0 => 1,
-        1 => 10,
-        2 => 100,
-        3 => 1000,
-        4 => 10000,
-        5 => 100000,
-        6 => 1000000,
-        7 => 10000000,
-        8 => 100000000,
-        9 => 1000000000,
-        10 => 10000000000,
-        11 => 100000000000,
-        12 => 1000000000000,
-        13 => 10000000000000,
-        14 => 100000000000000,
-        15 => 1000000000000000,
-        16 => 10000000000000000,
-        17 => 100000000000000000,
-        18 => 1000000000000000000,
-        _ => 10000000000000000000,
-    }
-}
-
 /// A quotient at a power, with one more where something was left and the side is up; `WIDTH` digits.
 fn rounded<const SIDE: bool, const WIDTH: usize>(whole: u64, left: bool, power: i32) -> Figure {
     if SIDE && left {
@@ -70,8 +44,8 @@ fn aligned(large: Figure, small: Figure) -> (u64, bool) {
     if gap > 18 {
         return (large.digits, true);
     }
-    let part = small.digits / ten_to(gap);
-    (large.digits + part, part * ten_to(gap) != small.digits)
+    let part = small.digits / TENS[gap];
+    (large.digits + part, part * TENS[gap] != small.digits)
 }
 
 fn ordered(a: Figure, b: Figure) -> (Figure, Figure) {
@@ -105,9 +79,9 @@ impl Figure {
         }
         let count = n.ilog10() as usize + 1;
         if count <= 9 {
-            return Figure { digits: n * ten_to(9 - count), power: power - (9 - count) as i32 };
+            return Figure { digits: n * TENS[9 - count], power: power - (9 - count) as i32 };
         }
-        let ten = ten_to(count - 9);
+        let ten = TENS[count - 9];
         rounded::<SIDE, 9>(n / ten, n % ten != 0, power + (count - 9) as i32)
     }
 
@@ -120,9 +94,12 @@ impl Figure {
         if product == 0 {
             return Figure::ZERO;
         }
-        let dropped = if product < TENS[17] { 8 } else { 9 };
-        let (ten, power) = (ten_to(dropped), self.power + other.power + dropped as i32);
-        rounded::<SIDE, 9>(product / ten, product % ten != 0, power)
+        // a divisor that the compiler knows, as in the proved library: a look-up of 10^8 or 10^9 would cost a division instruction
+        let power = self.power + other.power;
+        if product < TENS[17] {
+            return rounded::<SIDE, 9>(product / TENS[8], product % TENS[8] != 0, power + 8);
+        }
+        rounded::<SIDE, 9>(product / TENS[9], product % TENS[9] != 0, power + 9)
     }
 
     pub fn over<const SIDE: bool>(self, other: Figure) -> Figure {
@@ -130,7 +107,7 @@ impl Figure {
             return self;
         }
         let zeros = if other.digits <= self.digits { 8 } else { 9 };
-        let n = self.digits * ten_to(zeros);
+        let n = self.digits * TENS[zeros];
         let power = self.power - other.power - zeros as i32;
         rounded::<SIDE, 9>(n / other.digits, n % other.digits != 0, power)
     }
@@ -154,7 +131,7 @@ impl Figure {
             }
             return Figure { digits: self.digits - 1, power: self.power };
         }
-        let n = self.digits * ten_to(gap);
+        let n = self.digits * TENS[gap];
         if n <= other.digits {
             return Figure::ZERO;
         }
