@@ -1,6 +1,6 @@
 -- Document 01, "The report program and the marked models": models A to L as one list, each with what the page says of it, and one claim: that the
 -- definitions agree with all of it. Assumes nothing: these are definitions.
-use Prim.Native.Nat.{ℕ, _+_, _-_, _*_, _^_}
+use Prim.Native.Nat.{ℕ, _+_, _*_, _^_}
 use mathlib.Core.Path.{_≡_}
 use mathlib.Core.Bool.{Bool, true, false, _&&_}
 use mathlib.Core.List.{List, [], _∷_, _++_}
