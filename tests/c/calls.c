@@ -103,10 +103,10 @@ static void check_text(const model *m, const uint32_t *words, size_t count)
 
 static const char *program; /* the report program */
 
-/* What it prints for the model's bytes. */
+/* What it prints for the model's bytes, which stand in a file where tests/run builds, below the root. */
 static void check_report(const model *m)
 {
-    char file[] = "/tmp/bounds-calls-XXXXXX", command[512], text[512];
+    char file[] = "target/tests/calls-XXXXXX", command[512], text[512];
     int descriptor = mkstemp(file);
     if (descriptor < 0 || write(descriptor, m->bytes, m->length) != (ssize_t)m->length || close(descriptor) != 0)
         fail("no temporary file", m->name);
