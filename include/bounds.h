@@ -1,9 +1,12 @@
 /*
  * Bounds on the probability that a system fails, from a model's words: the proved library for C and C++.
  *
- * Build the archive by `rt staticlib embed` and link target/staticlib/libembed.a. The functions under "Exported" are proved: each promises its
- * result as an equation with the definitions of document 01, for all words and all budgets. The inline functions of this header are not proved;
- * tests/c tries them.
+ * `tools/archive` makes the archive, target/lib/libbounds.a; `tools/install PREFIX` puts it, this header and a file for pkg-config in place. The
+ * functions under "Exported" are proved: each promises its result as an equation with the definitions of document 01, for all words and all
+ * budgets. The inline functions of this header are not proved; tests/c tries them.
+ *
+ * Which version. The archive must be of the header's own version, since another may write more numbers into a caller's buffers. Nothing but a
+ * comparison at run time can tell: call bounds_version_agrees first, and nothing else where it says 0. bounds_ask looks by itself.
  *
  * Who owns what. Every buffer is the caller's. The library keeps no pointer after a call, asks for no memory, makes no system call and uses no
  * floating point. Words and bytes that are lent by a pointer to const are only read. A pointer is never null, also where the count beside it
@@ -24,10 +27,18 @@
 #include <float.h>
 #include <stddef.h>
 #include <stdint.h>
+#include <string.h>
 
 #ifdef __cplusplus
 extern "C" {
 #endif
+
+/* ---- The version: major * 1,000,000 + minor * 1,000 + patch. CHANGELOG.md says what each brought. */
+
+#define BOUNDS_VERSION 1001000
+#define BOUNDS_MAJOR(version) ((int)((version) / 1000000))
+#define BOUNDS_MINOR(version) ((int)((version) / 1000 % 1000))
+#define BOUNDS_PATCH(version) ((int)((version) % 1000))
 
 /* ---- Sizes */
 
@@ -36,12 +47,14 @@ extern "C" {
 #define BOUNDS_WORDS_SIZE 16006      /* the words that bounds_words writes */
 #define BOUNDS_TEXT_SIZE 256         /* the bytes that bounds_text writes */
 #define BOUNDS_STACK 262144          /* the stack that a call needs at most, in bytes */
+#define BOUNDS_SENTENCE_SIZE 128     /* the bytes that bounds_sentence_at writes at most, the zero byte at the end included */
 
 /*
  * ---- Refusals
  *
  * A refusal has a number and a place. For 3 to 9 the place is that of a word, counted from 0 (where the words ran out, it is their number);
- * for 10 and 11 it is a state; for 1, 2 and 13 it is 0. bounds_sentence has a sentence for each that a tool can show.
+ * for 10 and 11 it is a state; for 1, 2 and 13 it is 0. bounds_sentence has a sentence for each that a tool can show. Only 0 is a report: later
+ * versions add numbers, and one that a program does not know is a refusal all the same.
  */
 enum bounds_refusal {
     BOUNDS_REPORTED = 0, /* no refusal */
@@ -64,6 +77,9 @@ enum bounds_refusal {
     BOUNDS_PROBABILITIES_NOT_ONE = 10,
     BOUNDS_START_WITHOUT_EXITS = 11
 };
+
+/* What bounds_ask answers where the archive is not of the header's version; no number of document 01's. */
+#define BOUNDS_OTHER_VERSION UINT64_MAX
 
 /*
  * ---- Figures
@@ -94,6 +110,9 @@ enum bounds_power {
 
 /* ---- Exported */
 
+/* The version of the archive, as BOUNDS_VERSION has that of the header. */
+uint64_t bounds_version(void);
+
 /*
  * The answer to `count` words under a budget of steps. Returns 0 for a report and otherwise the refusal's number. Writes every number of
  * `values` and `powers`, whatever they held, in a refusal too: there the place, and zeros for all the rest.
@@ -115,9 +134,24 @@ size_t bounds_text(const uint32_t *words, size_t count, uint64_t budget, uint8_t
  */
 size_t bounds_words(const uint8_t *bytes, size_t count, uint32_t words[BOUNDS_WORDS_SIZE]);
 
+/*
+ * Whether a figure is at or below a limit, as a requirement asks ("is upper at most 1E-9?"): 1 at or below, 0 above, 2 where one of the two is no
+ * figure. Ask it so and not by doubles: the double that a compiler makes of 1E-6 lies below 1E-6, so that the figure 1.00000000E-6, turned into a
+ * double above it, would miss a requirement that it meets (likewise at 1E-7, 1E-11 and 1E-12).
+ */
+uint64_t bounds_at_or_below(uint64_t digits, int32_t power, uint64_t limit_digits, int32_t limit_power);
+
 #ifdef __cplusplus
 }
 #endif
+
+/* ---- Inline: the version */
+
+/* 1 if the archive is of the header's version. Else 0: no other function may be called then. */
+static inline int bounds_version_agrees(void)
+{
+    return bounds_version() == BOUNDS_VERSION;
+}
 
 /* ---- Inline: an answer as one value */
 
@@ -126,8 +160,14 @@ typedef struct {
     int32_t power;
 } bounds_figure;
 
+/* 1 if the figure is at or below the limit. Else 0, also where one of the two is no figure. */
+static inline int bounds_meets(bounds_figure figure, bounds_figure limit)
+{
+    return bounds_at_or_below(figure.digits, figure.power, limit.digits, limit.power) == 1;
+}
+
 typedef struct {
-    uint64_t refusal; /* 0 in a report, else a number of enum bounds_refusal */
+    uint64_t refusal; /* 0 in a report, else a number of enum bounds_refusal, of a later version, or BOUNDS_OTHER_VERSION */
     uint64_t place;
     bounds_figure lower;
     bounds_figure upper;
@@ -137,12 +177,13 @@ typedef struct {
     uint64_t steps;
 } bounds_answer;
 
+/* Looks at the version first: where it is another, the answer is refusal BOUNDS_OTHER_VERSION with zeros for all the rest. */
 static inline bounds_answer bounds_ask(const uint32_t *words, size_t count, uint64_t budget)
 {
-    uint64_t values[BOUNDS_VALUES];
-    int32_t powers[BOUNDS_POWERS];
+    uint64_t values[BOUNDS_VALUES] = { 0 };
+    int32_t powers[BOUNDS_POWERS] = { 0 };
     bounds_answer answer;
-    answer.refusal = bounds_assess(words, count, budget, values, powers);
+    answer.refusal = bounds_version_agrees() ? bounds_assess(words, count, budget, values, powers) : BOUNDS_OTHER_VERSION;
     answer.place = values[BOUNDS_PLACE];
     answer.lower.digits = values[BOUNDS_LOWER_DIGITS];
     answer.lower.power = powers[BOUNDS_LOWER_POWER];
@@ -156,37 +197,72 @@ static inline bounds_answer bounds_ask(const uint32_t *words, size_t count, uint
     return answer;
 }
 
-/* A sentence on a refusal that a tool can show, before or after its place; an empty one for a number that is no refusal. */
+/* ---- Inline: sentences */
+
+/*
+ * A sentence on a refusal that a tool can show. Where it says PLACE, the place belongs; bounds_sentence_at puts it there. The sentence for 0, which
+ * is no refusal, is empty.
+ */
 static inline const char *bounds_sentence(uint64_t refusal)
 {
     switch (refusal) {
+    case BOUNDS_REPORTED:
+        return "";
     case BOUNDS_TOO_MANY_WORDS:
         return "The model has more than 16,005 words.";
     case BOUNDS_BUDGET_OUT_OF_RANGE:
-        return "The budget is not from 1 to 1,000,000.";
+        return "The budget must be from 1 to 1,000,000 steps.";
     case BOUNDS_OVER_BUDGET:
-        return "The cut tree has more steps than the budget.";
+        return "The model has more steps than the budget allows.";
     case BOUNDS_WRONG_KIND:
-        return "The word at this place is of another kind than its place calls for, is missing, or follows the end.";
+        return "Word PLACE is missing, or is not of the kind that belongs there.";
     case BOUNDS_BIT_SET:
-        return "The word at this place has a bit set that must be zero.";
+        return "Word PLACE has a bit set that must be zero.";
     case BOUNDS_QUANTITY_OUT_OF_RANGE:
-        return "The quantity at this place has its scale or its coefficient out of range.";
+        return "The quantity in word PLACE is out of range.";
     case BOUNDS_FIELD_OUT_OF_RANGE:
-        return "The word at this place has an edition, number of states, start, limit or state number out of range.";
+        return "Word PLACE has an edition, state or limit out of range.";
     case BOUNDS_SELF_TRANSITION:
-        return "The transition at this place leads from a state to itself.";
+        return "The transition at word PLACE leads from a state to itself.";
     case BOUNDS_DUPLICATE_TRANSITION:
-        return "The transition at this place stood earlier, with the same kind and between the same two states.";
+        return "The transition at word PLACE repeats an earlier one between the same two states.";
     case BOUNDS_TOO_MANY_TRANSITIONS:
-        return "The transition at this place is the 17th exit of its state or the 4,001st transition.";
+        return "The transition at word PLACE is the 17th exit of its state or the 4,001st of the model.";
     case BOUNDS_PROBABILITIES_NOT_ONE:
-        return "The probabilities of this state's fast exits do not sum to exactly 1.";
+        return "The probabilities of the fast exits of state PLACE do not add up to exactly 1.";
     case BOUNDS_START_WITHOUT_EXITS:
-        return "The start state has no exits.";
+        return "The start state PLACE has no exits.";
+    case BOUNDS_OTHER_VERSION:
+        return "The library is not of the version that this program was built for.";
     default:
-        return "";
+        return "The model was refused by a number that this program does not know.";
     }
+}
+
+/* Writes the sentence with the place in it, and a zero byte behind it, into `text`, and hands `text` back. */
+static inline const char *bounds_sentence_at(uint64_t refusal, uint64_t place, char text[BOUNDS_SENTENCE_SIZE])
+{
+    static const char mark[] = "PLACE";
+    const char *sentence = bounds_sentence(refusal);
+    const char *at = strstr(sentence, mark);
+    char digits[20];
+    size_t length = 0, count = 0, whole = strlen(sentence);
+
+    if (at == NULL) {
+        memcpy(text, sentence, whole + 1);
+        return text;
+    }
+    length = (size_t)(at - sentence);
+    memcpy(text, sentence, length);
+    do {
+        digits[count++] = (char)('0' + place % 10);
+        place /= 10;
+    } while (place != 0);
+    while (count > 0)
+        text[length++] = digits[--count];
+    at += sizeof mark - 1;
+    memcpy(text + length, at, strlen(at) + 1);
+    return text;
 }
 
 /*
@@ -194,21 +270,26 @@ static inline const char *bounds_sentence(uint64_t refusal)
  *
  * Most figures are no double, so one that is converted by pow, strtod or a cast is rounded to the nearest, and that may lie on the wrong side:
  * an upper figure turned into a smaller number is no upper bound any more. bounds_double_above is the least double that is not below the figure
- * (for upper figures and for the cut part), bounds_double_below the greatest that is not above it (for lower figures). Both work on whole numbers
- * and round once. A figure above DBL_MAX is infinity above and DBL_MAX below; one below the least positive double is that double above and 0
+ * (for upper figures and for the cut part), bounds_double_below the greatest that is not above it (for lower figures). Both work on whole numbers,
+ * round once and put the bits of the double together: they do no floating-point arithmetic, so that neither the rounding mode nor -ffast-math
+ * changes them. A figure above DBL_MAX is infinity above and DBL_MAX below; one below the least positive double is that double above and 0
  * below. What a program then computes from the doubles is rounded again: keep to the figures where the side matters.
  */
-static inline double bounds_double(uint64_t digits, int32_t power, int above)
+#if FLT_RADIX != 2 || DBL_MANT_DIG != 53 || DBL_MAX_EXP != 1024
+#error "bounds.h: a double must have the 64 bits of IEEE 754"
+#endif
+
+/* The bits of the least double not below digits * 10^power where `above` is set, else of the greatest not above it. */
+static inline uint64_t bounds_double_bits(uint64_t digits, int32_t power, int above)
 {
     enum { LIMBS = 48 };
     uint32_t limb[LIMBS] = { 0 }; /* the figure times 2^fraction, 32 bits each, the least first */
     int fraction, top, kept, scale, i, j;
     int lost = 0; /* whether anything was dropped */
     uint64_t whole = 0;
-    double x;
 
     if (digits == 0)
-        return 0.0;
+        return 0;
     /* Beyond these powers the figure is above every double, or below every one that is not 0. */
     power = power > 309 ? 309 : power < -400 ? -400 : power;
     i = power < 0 ? (64 - power * 10 / 3) / 32 + 1 : 0; /* enough for 64 bits after the divisions */
@@ -237,20 +318,26 @@ static inline double bounds_double(uint64_t digits, int32_t power, int above)
     /* A double has 53 bits, and none below 2^-1074. */
     kept = top - fraction + 1075;
     kept = kept > 53 ? 53 : kept;
-    for (i = top; i >= 0; i--) {
-        int bit = limb[i / 32] >> (i % 32) & 1;
-        if (top - i < kept)
+    for (i = top; i >= 0 || i > top - kept; i--) {
+        int bit = i < 0 ? 0 : (int)(limb[i / 32] >> (i % 32) & 1);
+        if (i > top - kept)
             whole = 2 * whole + (uint64_t)bit;
         else
             lost |= bit;
     }
-    scale = kept <= 0 ? -1074 : (top >= kept ? top - kept + 1 : 0) - fraction;
-    x = (double)(above && lost ? whole + 1 : whole);
-    for (; scale > 0; scale--)
-        x *= 2.0;
-    for (; scale < 0; scale++)
-        x *= 0.5;
-    return !above && x > DBL_MAX ? DBL_MAX : x;
+    /* The double is whole * 2^scale, and one more in its bits is the next one. The 53rd bit of `whole` adds one to the exponent that stands there. */
+    scale = top - kept + 1 - fraction;
+    if (scale > DBL_MAX_EXP - DBL_MANT_DIG)
+        return above ? 0x7FF0000000000000u : 0x7FEFFFFFFFFFFFFFu;
+    return whole + ((uint64_t)(scale + 1074) << 52) + (above && lost ? 1 : 0);
+}
+
+static inline double bounds_double(uint64_t digits, int32_t power, int above)
+{
+    uint64_t bits = bounds_double_bits(digits, power, above);
+    double x;
+    memcpy(&x, &bits, sizeof x);
+    return x;
 }
 
 static inline double bounds_double_above(bounds_figure figure)

@@ -1,10 +1,12 @@
-"""Checks docs/TRACE.md, docs/CLAIMS.md and docs/ARCHITECTURE.md: each file that they name exists, and each name stands in the file named with it.
+"""Checks docs/TRACE.md, docs/CLAIMS.md, docs/GLOSSARY.md and docs/ARCHITECTURE.md: each file that they name exists, and each name is declared in the file
+named with it. Each must-fail edit is named by the trace or the claims.
 
     python3 tools/check_trace.py              files and names
     python3 tools/check_trace.py DOCUMENT     also each sentence of the trace, word for word, and that none of the document is left out
 
-In a cell of the trace's tables and in an item of the claims that begins "Says so" or "Would show it false", what stands in backticks is a file (it has
-a slash and a suffix, or ends in stdin or stdout) or a name, which belongs to the file before it in that cell or item. Of all else in the claims and the
+In a cell of the trace's and the glossary's tables and in an item of the claims that begins "Says so", "Refused edits" or "A model" ("Models") "that would
+answer otherwise", what stands in backticks is a file (it has a slash and a suffix, or ends in stdin or stdout) or a name, which belongs to the file before it
+in that cell or item. Of all else in the claims and the
 architecture only files are looked at, but for those with a word such as NAME in their path. Files are below crates/ or else below the repository's root.
 In the trace's column of vectors a name without a file is a model of reference/tests/data/models.txt or papers.txt, and one letter is one of document
 01's models A to L, as the list in crates/tree/specs/Marked.antt has it. A cell that holds only a dash is empty. Ends with 0 if nothing is wrong, else
@@ -15,7 +17,8 @@ import sys
 from pathlib import Path
 
 ROOT = Path(__file__).resolve().parent.parent
-TRACE, CLAIMS, ARCHITECTURE = "docs/TRACE.md", "docs/CLAIMS.md", "docs/ARCHITECTURE.md"
+TRACE, CLAIMS, GLOSSARY, ARCHITECTURE = "docs/TRACE.md", "docs/CLAIMS.md", "docs/GLOSSARY.md", "docs/ARCHITECTURE.md"
+ITEMS = ("- Says so:", "- Refused edits:", "- A model that would answer otherwise:", "- Models that would answer otherwise:")
 MODELS = ["reference/tests/data/models.txt", "reference/tests/data/papers.txt"]
 MARKED = "tree/specs/Marked.antt"
 EMPTY = "—"
@@ -32,8 +35,27 @@ def found(path):
     return None
 
 
-def stands(name, text):
-    return re.search(rf"(?<!{PART_OF_NAME}){re.escape(name)}(?!{PART_OF_NAME})", text) is not None
+def whole(name):
+    return rf"(?<!{PART_OF_NAME}){re.escape(name)}(?!{PART_OF_NAME})"
+
+
+def comments_out(text, mark):
+    return re.sub(rf"{mark}.*$", "", text, flags=re.M)
+
+
+def declared(name, path, text):
+    """Whether a file of definitions or of code declares a name, or, in code, a contract cites it; in any other file it need only stand."""
+    if path.endswith(".antt"):
+        text = comments_out(text, "--")
+        heads = rf"^ *(?:(?:abbrev|unfoldable|pub|private) +)*(?:(?:record|data|module) +)?(?:[^\s:=()]+ +)*{whole(name)}(?: +[^\s:=()]+)* *(?:[:({{]|$)"
+        return re.search(heads, text, re.M) is not None
+    if path.endswith(".rt"):
+        text = comments_out(text, "//")
+        kinds = rf"\b(?:fn|struct|enum|const|type|mod|let|let mut) {whole(name)}"
+        fields = rf"^\s*(?:pub )?{whole(name)}(?::|[,(])"
+        clauses = rf"\b(?:requires|ensures) \{{.*{whole(name)}"
+        return any(re.search(r, text, re.M) for r in (kinds, fields, clauses))
+    return re.search(whole(name), text) is not None
 
 
 def quoted(text):
@@ -69,8 +91,8 @@ class Trace:
     def name(self, line, path, name):
         self.names += 1
         text = self.text(path)
-        if text is not None and not stands(name, text):
-            self.fail(line, f"{name} does not stand in {path}")
+        if text is not None and not declared(name, path, text):
+            self.fail(line, f"{name} is not declared in {path}")
 
     def vector(self, line, name):
         self.names += 1
@@ -104,7 +126,7 @@ class Trace:
         item, path = False, None
         for line, text in enumerate(self.lines(CLAIMS), 1):
             if not (item and text.startswith("  ")):
-                item, path = text.startswith(("- Says so:", "- Would show it false:")), None
+                item, path = text.startswith(ITEMS), None
             for word in quoted(text):
                 if FILE.fullmatch(word):
                     path = word
@@ -121,9 +143,10 @@ class Trace:
                 if not STANDS_FOR.search(word):
                     self.file(line, word)
 
-    def read(self):
-        columns = []
-        for line, row in enumerate(self.lines(TRACE), 1):
+    def tables(self, document):
+        """The rows of a page's tables: a sentence or a letter, then cells of files and names."""
+        self.document, columns = document, []
+        for line, row in enumerate(self.lines(document), 1):
             if not row.startswith("|"):
                 columns = []
                 continue
@@ -134,9 +157,18 @@ class Trace:
                 self.rows += 1
                 if len(cells) != len(columns):
                     self.fail(line, f"{len(cells)} cells in a table of {len(columns)} columns")
-                self.sentences.append((line, cells[0]))
+                if document == TRACE:
+                    self.sentences.append((line, cells[0]))
                 for column, cell in zip(columns[1:], cells[1:]):
                     self.cell(line, cell, column == "Vector")
+
+
+def edits(trace):
+    """Each must-fail edit is named by the trace or the claims."""
+    for folder in ("must-fail", "faults"):
+        for edit in sorted((ROOT / "crates").glob(f"*/{folder}/*.edit")):
+            if edit not in trace.files:
+                trace.wrong.append(f"no page names {edit.relative_to(ROOT)}")
 
 
 def plain(text):
@@ -165,10 +197,12 @@ def compare(trace, document):
 
 def main(arguments):
     trace = Trace()
-    trace.read()
+    trace.tables(TRACE)
     if arguments:
         compare(trace, arguments[0])
+    trace.tables(GLOSSARY)
     trace.claims()
+    edits(trace)
     trace.architecture()
     print("\n".join(trace.wrong), end="\n" if trace.wrong else "")
     print(f"{trace.rows} rows, {len(trace.files)} files, {trace.names} names, {trace.empty} empty cells, {len(trace.wrong)} wrong")

@@ -31,17 +31,20 @@ fn proved(words: &[u32]) -> String {
 
 /// The plain program's answer, as the report program prints it.
 fn shown(answer: Result<plain::Report, plain::Refusal>) -> String {
-    let figure = |f: plain::Figure| bounds::Figure { digits: f.digits, power: f.power };
+    let figure = |f: plain::Figure| match bounds::Figure::new(f.digits, f.power) {
+        Some(figure) => figure.to_string(),
+        None => format!("{} and {}, which are no figure", f.digits, f.power),
+    };
     match answer {
-        Ok(r) => bounds::Report {
-            lower: figure(r.lower),
-            upper: figure(r.upper),
-            cut: figure(r.cut),
-            deaths: r.deaths,
-            cuts: r.cuts,
-            steps: r.steps,
-        }
-        .to_string(),
+        Ok(r) => format!(
+            "lower {}\nupper {}\ncut {}\ndeaths {}\ncuts {}\nsteps {}",
+            figure(r.lower),
+            figure(r.upper),
+            figure(r.cut),
+            r.deaths,
+            r.cuts,
+            r.steps
+        ),
         Err(refusal) => format!("refused {} at {}", refusal.number, refusal.place),
     }
 }

@@ -74,7 +74,7 @@ fn check_file(path: &Path) -> Result<usize, Box<dyn Error>> {
 #[test]
 fn expected_answers() -> Result<(), Box<dyn Error>> {
     let data = Path::new(env!("CARGO_MANIFEST_DIR")).join("tests/data");
-    assert_eq!(check_file(&data.join("models.txt"))?, 363);
+    assert_eq!(check_file(&data.join("models.txt"))?, 367);
     assert_eq!(check_file(&data.join("papers.txt"))?, 98);
     if let Some(paths) = std::env::var_os("VECTORS") {
         for path in std::env::split_paths(&paths).filter(|path| *path != PathBuf::new()) {

@@ -1,6 +1,8 @@
 //! The report on a model's words from standard input, four bytes a word, least significant first:
 //!
-//!     tools/model/target/release/model words examples/marked/b.txt | cargo run -q --release --offline --manifest-path rust/Cargo.toml --example report
+//!     command/target/release/bounds words examples/marked/b.txt | cargo run -q --release --offline --manifest-path rust/Cargo.toml --example report
+//!
+//! With a figure as an argument, whether the upper figure is at or below it as well.
 
 use std::error::Error;
 use std::io::Read;
@@ -8,12 +10,21 @@ use std::io::Read;
 fn main() -> Result<(), Box<dyn Error>> {
     let mut bytes = Vec::new();
     std::io::stdin().read_to_end(&mut bytes)?;
-    match bounds::assess(&bounds::words_of(&bytes), bounds::MOST_BUDGET) {
-        Ok(report) => {
-            println!("{report}");
-            println!("between {} and {}", report.lower.below(), report.upper.above());
+    let mut room = [0; bounds::WORDS_SIZE];
+    let words = bounds::words_of(&bytes, &mut room)?;
+    let report = match bounds::assess(words, bounds::MOST_BUDGET) {
+        Ok(report) => report,
+        Err(bounds::Error::Refused(refusal)) => {
+            println!("{refusal}: {}", refusal.sentence());
+            return Ok(());
         }
-        Err(refusal) => println!("{refusal}: {}", refusal.reason.sentence()),
+        Err(error) => return Err(error.into()),
+    };
+    println!("{report}");
+    println!("between {} and {}", report.lower.below(), report.upper.above());
+    if let Some(limit) = std::env::args().nth(1) {
+        let meets = report.upper.at_or_below(limit.parse()?)?;
+        println!("at most {limit}: {}", if meets { "yes" } else { "no" });
     }
     Ok(())
 }

@@ -31,10 +31,13 @@ fn next(from: &mut impl Read) -> io::Result<Option<Record>> {
 
 /// The answer in numbers, printed, is the proved text; both are worked out, so that a comparison tries both.
 fn answer(record: &Record) -> String {
-    let text = bounds::text(&record.words, record.budget);
+    let text = match bounds::text(&record.words, record.budget) {
+        Ok(text) => text.to_string(),
+        Err(error) => return format!("{error}\n"),
+    };
     let shown = match bounds::assess(&record.words, record.budget) {
         Ok(report) => format!("{report}\n"),
-        Err(refusal) => format!("{refusal}\n"),
+        Err(error) => format!("{error}\n"),
     };
     if shown == text {
         text

@@ -1,4 +1,5 @@
-//! A figure as a double on one side of it, in whole numbers, rounded once.
+//! A figure as a double on one side of it, in whole numbers, rounded once. The bits are put together: no floating-point arithmetic is done, so that the
+//! rounding mode of the process does not matter.
 
 /// Words of 32 bits, the least first.
 const LIMBS: usize = 48;
@@ -23,21 +24,19 @@ pub(crate) fn of(digits: u64, power: i32, above: bool) -> f64 {
     for _ in power..0 {
         lost |= divide_by_ten(&mut limbs);
     }
-    let bit = |at: i32| limbs[at as usize / 32] >> (at % 32) & 1;
+    let bit = |at: i32| if at < 0 { 0 } else { limbs[at as usize / 32] >> (at % 32) & 1 };
     let top = (0..32 * LIMBS as i32).rev().find(|&at| bit(at) == 1).unwrap_or(0);
     // A double has 53 bits, and none below 2^-1074.
     let kept = (top - fraction + 1075).min(53);
-    let last = if kept > 0 { (top - kept + 1).max(0) } else { top + 1 };
-    let mut whole = (last..=top).rev().fold(0u64, |n, at| 2 * n + u64::from(bit(at)));
+    let last = top - kept + 1;
+    let whole = (last..=top).rev().fold(0u64, |n, at| 2 * n + u64::from(bit(at)));
     lost |= (0..last).any(|at| bit(at) == 1);
-    whole += u64::from(above && lost);
-    let scale = if kept > 0 { last - fraction } else { -1074 };
-    let x = scaled(whole as f64, scale);
-    if above {
-        x
-    } else {
-        x.min(f64::MAX)
+    // The double is whole × 2^scale, and one more in its bits is the next one. The 53rd bit of `whole` adds one to the exponent that stands there.
+    let scale = last - fraction;
+    if scale > f64::MAX_EXP - f64::MANTISSA_DIGITS as i32 {
+        return if above { f64::INFINITY } else { f64::MAX };
     }
+    f64::from_bits(whole + ((scale + 1074) as u64 * (1 << 52)) + u64::from(above && lost))
 }
 
 fn times_ten(limbs: &mut [u32; LIMBS]) {
@@ -58,10 +57,4 @@ fn divide_by_ten(limbs: &mut [u32; LIMBS]) -> bool {
         rest %= 10;
     }
     rest != 0
-}
-
-/// x × 2^scale; each turn is exact, or goes to infinity.
-fn scaled(x: f64, scale: i32) -> f64 {
-    let by = if scale < 0 { 0.5 } else { 2.0 };
-    (0..scale.abs()).fold(x, |x, _| x * by)
 }

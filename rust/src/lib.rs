@@ -4,31 +4,49 @@
 //! let model_a = [0x11002001, 0x2000000A, 0x30000000, 0x41801000, 0x50001002, 0x60400001, 0xF0000000];
 //! let report = bounds::assess(&model_a, bounds::MOST_BUDGET)?;
 //! assert_eq!(report.upper.to_string(), "1.00000000E-3");
-//! # Ok::<(), bounds::Refusal>(())
+//! let limit: bounds::Figure = "1E-3".parse()?;
+//! assert!(report.upper.at_or_below(limit)?);
+//! # Ok::<(), Box<dyn std::error::Error>>(())
 //! ```
 //!
-//! The functions behind [`assess`], [`text`] and [`words_of`] are proved to give document 01's answer to every list of words and every budget.
-//! What this crate adds (its types, and how they print) is not proved; its tests compare it with the proved text.
+//! The functions behind [`assess`], [`text`], [`words_of`] and [`Figure::at_or_below`] are proved to give document 01's answer to every list of words
+//! and every budget. What this crate adds (its types, how they print, how they are ordered) is not proved; its tests compare it with the proved text.
 //!
-//! The library keeps no state and asks for no memory: any number of threads may call at once. A call needs at most [`STACK`] bytes of stack, which
-//! is less than a thread of the standard library has.
+//! The crate fails closed: only 0 from the library is a report, and whatever the wrapper does not know is an [`Error`]. Every call looks first whether
+//! the library is of this crate's own [`VERSION`], since another may write more numbers than the wrapper has room for.
+//!
+//! The library keeps no state and asks for no memory, and the crate needs neither the standard library nor an allocator: any number of threads may call
+//! at once. A call needs at most [`STACK`] bytes of stack, which is less than a thread of the standard library has.
+
+#![no_std]
 
 mod double;
+mod error;
 mod figure;
 mod library;
 mod refusal;
 mod report;
+mod spelling;
+mod text;
+mod version;
 
+pub use error::Error;
 pub use figure::Figure;
 pub use library::{assess, text, words_of};
-pub use refusal::{Party, Reason, Refusal};
+pub use refusal::{Party, Place, Reason, Refusal, Sentence};
 pub use report::Report;
+pub use spelling::NoFigure;
+pub use text::Text;
+pub use version::{library_version, Version, VERSION};
 
 /// The greatest number of words that a model may have.
 pub const MOST_WORDS: usize = 16_005;
 
 /// The greatest budget that is allowed; the least is 1.
 pub const MOST_BUDGET: u64 = 1_000_000;
+
+/// The words that [`words_of`] writes at most: one more than a model may have.
+pub const WORDS_SIZE: usize = 16_006;
 
 /// The stack that a call needs at most, in bytes: measured, as `include/bounds.h` says, not proved.
 pub const STACK: usize = 262_144;

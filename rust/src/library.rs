@@ -1,13 +1,13 @@
-//! The calls of the static library. `include/bounds.h` says what each promises.
+//! The calls of the archive. `include/bounds.h` says what each promises. Each but that for the version looks at the version first.
 
-use crate::{Figure, Reason, Refusal, Report};
+use crate::text::{self, Text};
+use crate::{version, Error, Figure, Reason, Refusal, Report, WORDS_SIZE};
 
 const VALUES: usize = 7;
 const POWERS: usize = 3;
-const TEXT_SIZE: usize = 256;
-const WORDS_SIZE: usize = 16_006;
 
 extern "C" {
+    fn bounds_version() -> u64;
     fn bounds_assess(
         words: *const u32,
         count: usize,
@@ -17,48 +17,131 @@ extern "C" {
     ) -> u64;
     fn bounds_text(words: *const u32, count: usize, budget: u64, text: *mut u8) -> usize;
     fn bounds_words(bytes: *const u8, count: usize, words: *mut u32) -> usize;
+    fn bounds_at_or_below(digits: u64, power: i32, limit_digits: u64, limit_power: i32) -> u64;
 }
 
-/// The report on a model's words, or the first reason to turn them away. The budget is the number of steps that the walk may take.
-pub fn assess(words: &[u32], budget: u64) -> Result<Report, Refusal> {
+pub(crate) fn version() -> u64 {
+    // SAFETY: it takes nothing and hands a number back.
+    unsafe { bounds_version() }
+}
+
+/// The report on a model's words, or why there is none. The budget is the number of steps that the walk may take.
+pub fn assess(words: &[u32], budget: u64) -> Result<Report, Error> {
+    version::agreed(version::library_version())?;
     let mut values = [0; VALUES];
     let mut powers = [0; POWERS];
     // SAFETY: the slice's pointer and length belong together, and both arrays have the lengths that the header states; neither overlaps another.
     let number = unsafe {
         bounds_assess(words.as_ptr(), words.len(), budget, values.as_mut_ptr(), powers.as_mut_ptr())
     };
+    answer(number, values, powers)
+}
+
+/// What the library's numbers say. Only 0 is a report.
+fn answer(number: u64, values: [u64; VALUES], powers: [i32; POWERS]) -> Result<Report, Error> {
     let [place, lower, upper, cut, deaths, cuts, steps] = values;
-    match Reason::of(number) {
-        // A place is at most the number of words, or a state.
-        Some(reason) => Err(Refusal { reason, place: place as usize }),
-        None => {
-            let figure = |digits, power| Figure { digits, power };
-            Ok(Report {
-                lower: figure(lower, powers[0]),
-                upper: figure(upper, powers[1]),
-                cut: figure(cut, powers[2]),
-                deaths,
-                cuts,
-                steps,
-            })
-        }
+    if number != 0 {
+        return Err(match Reason::of(number) {
+            Some(reason) => Error::Refused(Refusal { reason, place }),
+            None => Error::UnknownRefusal { number, place },
+        });
     }
+    let figure = |digits, power| Figure::new(digits, power).ok_or(Error::Unexpected("no figure"));
+    Ok(Report {
+        lower: figure(lower, powers[0])?,
+        upper: figure(upper, powers[1])?,
+        cut: figure(cut, powers[2])?,
+        deaths,
+        cuts,
+        steps,
+    })
 }
 
 /// What the report program prints for the words, under this budget.
-pub fn text(words: &[u32], budget: u64) -> String {
-    let mut text = [0; TEXT_SIZE];
-    // SAFETY: as above.
-    let length = unsafe { bounds_text(words.as_ptr(), words.len(), budget, text.as_mut_ptr()) };
-    String::from_utf8_lossy(&text[..length]).into_owned()
+pub fn text(words: &[u32], budget: u64) -> Result<Text, Error> {
+    version::agreed(version::library_version())?;
+    let mut bytes = [0; text::SIZE];
+    // SAFETY: as in `assess`.
+    let length = unsafe { bounds_text(words.as_ptr(), words.len(), budget, bytes.as_mut_ptr()) };
+    Text::of(bytes, length)
 }
 
-/// The words of a model that is held as bytes, four bytes a word, least significant first. Left-over bytes are one more word, of no kind. Of more
-/// bytes than 16,006 words have, those words are handed back, which [`assess`] refuses.
-pub fn words_of(bytes: &[u8]) -> Vec<u32> {
-    let mut words = vec![0; WORDS_SIZE];
-    // SAFETY: as above.
+/// The words of a model that is held as bytes, four bytes a word, least significant first: the first of `words`, as many as are handed back. Left-over
+/// bytes are one more word, of no kind. Of more bytes than 16,006 words have, those words are handed back, which [`assess`] refuses.
+pub fn words_of<'a>(bytes: &[u8], words: &'a mut [u32; WORDS_SIZE]) -> Result<&'a [u32], Error> {
+    version::agreed(version::library_version())?;
+    // SAFETY: as in `assess`.
     let count = unsafe { bounds_words(bytes.as_ptr(), bytes.len(), words.as_mut_ptr()) };
-    words.truncate(count);
-    words
+    words.get(..count).ok_or(Error::Unexpected("more words than there is room for"))
+}
+
+/// Whether the figure is at or below the limit.
+pub(crate) fn at_or_below(figure: Figure, limit: Figure) -> Result<bool, Error> {
+    version::agreed(version::library_version())?;
+    // SAFETY: it takes numbers and hands a number back.
+    let answer = unsafe {
+        bounds_at_or_below(figure.digits(), figure.power(), limit.digits(), limit.power())
+    };
+    order(answer)
+}
+
+fn order(answer: u64) -> Result<bool, Error> {
+    match answer {
+        1 => Ok(true),
+        0 => Ok(false),
+        _ => Err(Error::Unexpected("no order of two figures")),
+    }
+}
+
+#[cfg(test)]
+mod tests {
+    extern crate std;
+    use super::*;
+    use std::format;
+    use std::string::ToString;
+
+    const VALUES_A: [u64; VALUES] = [0, 999_500_000, 100_000_000, 0, 1, 0, 1];
+    const POWERS_A: [i32; POWERS] = [-12, -11, 0];
+
+    /// Only 0 is a report, whatever the buffers hold. A number that is not known is an error of its own that carries it.
+    #[test]
+    fn every_number() {
+        for number in (0..=64).chain([u64::MAX - 1, u64::MAX]) {
+            let known = (1..=11).contains(&number) || number == 13;
+            match answer(number, VALUES_A, POWERS_A) {
+                Ok(report) => {
+                    assert_eq!(number, 0);
+                    assert_eq!(report.upper.to_string(), "1.00000000E-3");
+                }
+                Err(Error::Refused(refusal)) => {
+                    assert!(known, "{number}");
+                    assert_eq!((refusal.reason.number(), refusal.place), (number, 0));
+                }
+                Err(Error::UnknownRefusal { number: carried, place: 0 }) => {
+                    assert!(!known && number != 0);
+                    assert_eq!(carried, number);
+                }
+                other => panic!("{number}: {other:?}"),
+            }
+        }
+        let unknown = answer(64, VALUES_A, POWERS_A).map_err(|error| format!("{error}"));
+        assert!(unknown.is_err_and(|text| text.starts_with("refused 64 at 0, a number that")));
+    }
+
+    #[test]
+    fn what_is_no_figure() {
+        for place in 1..=3 {
+            let mut values = VALUES_A;
+            values[place] = 7;
+            assert_eq!(answer(0, values, POWERS_A), Err(Error::Unexpected("no figure")), "{place}");
+        }
+    }
+
+    #[test]
+    fn what_is_no_order() {
+        assert_eq!((order(0), order(1)), (Ok(false), Ok(true)));
+        for answer in (2..=64).chain([u64::MAX]) {
+            assert!(order(answer).is_err(), "{answer}");
+        }
+    }
 }

@@ -1,16 +1,16 @@
-use std::error::Error;
-use std::fmt;
+use core::fmt;
 
-/// Why a model was turned away. The place is that of a word, counted from 0, or a state (`ProbabilitiesNotOne`, `StartWithoutExits`); it is 0 where
-/// the caller is asked to change something.
+/// Why a model was turned away.
 #[derive(Clone, Copy, Debug, PartialEq, Eq)]
 pub struct Refusal {
     pub reason: Reason,
-    pub place: usize,
+    /// What it is the place of, [`Reason::place`] says.
+    pub place: u64,
 }
 
-/// Document 01's reasons.
+/// Document 01's reasons. Later versions add to them.
 #[derive(Clone, Copy, Debug, PartialEq, Eq)]
+#[non_exhaustive]
 pub enum Reason {
     TooManyWords,
     BudgetOutOfRange,
@@ -28,10 +28,32 @@ pub enum Reason {
 
 /// Who can mend what a refusal names.
 #[derive(Clone, Copy, Debug, PartialEq, Eq)]
+#[non_exhaustive]
 pub enum Party {
     Caller,
     WhoWroteTheWords,
     WhoDrewTheModel,
+}
+
+/// What a refusal's place is the place of.
+#[derive(Clone, Copy, Debug, PartialEq, Eq)]
+#[non_exhaustive]
+pub enum Place {
+    /// Nothing: it is 0.
+    Nothing,
+    /// A word, counted from 0; where the words ran out, it is their number.
+    Word,
+    /// A state.
+    State,
+}
+
+/// All that is known of a reason.
+struct Entry {
+    number: u64,
+    party: Party,
+    place: Place,
+    sentence: &'static str,
+    advice: &'static str,
 }
 
 impl Reason {
@@ -50,55 +72,142 @@ impl Reason {
         Reason::OverBudget,
     ];
 
-    /// Document 01's number.
-    pub fn number(self) -> u64 {
+    /// The rows of the table in docs/REPORT.md; tests/wording compares them.
+    fn entry(self) -> Entry {
         match self {
-            Reason::TooManyWords => 1,
-            Reason::BudgetOutOfRange => 2,
-            Reason::WrongKind => 3,
-            Reason::BitSet => 4,
-            Reason::QuantityOutOfRange => 5,
-            Reason::FieldOutOfRange => 6,
-            Reason::SelfTransition => 7,
-            Reason::DuplicateTransition => 8,
-            Reason::TooManyTransitions => 9,
-            Reason::ProbabilitiesNotOne => 10,
-            Reason::StartWithoutExits => 11,
-            Reason::OverBudget => 13,
+            Reason::TooManyWords => Entry {
+                number: 1,
+                party: Party::Caller,
+                place: Place::Nothing,
+                sentence: "The model has more than 16,005 words.",
+                advice: "The wrong file, or more than 4,000 transitions. Left-over bytes count as one more word.",
+            },
+            Reason::BudgetOutOfRange => Entry {
+                number: 2,
+                party: Party::Caller,
+                place: Place::Nothing,
+                sentence: "The budget must be from 1 to 1,000,000 steps.",
+                advice: "The call. The report program always uses 1,000,000.",
+            },
+            Reason::WrongKind => Entry {
+                number: 3,
+                party: Party::WhoWroteTheWords,
+                place: Place::Word,
+                sentence: "Word PLACE is missing, or is not of the kind that belongs there.",
+                advice: "Order of the words, a forgotten end word, something after it, left-over bytes, a file that ends early, bytes in the wrong order.",
+            },
+            Reason::BitSet => Entry {
+                number: 4,
+                party: Party::WhoWroteTheWords,
+                place: Place::Word,
+                sentence: "Word PLACE has a bit set that must be zero.",
+                advice: "Bits 27 to 24 of a transition, 11 to 0 of the caps, 27 to 0 of the end.",
+            },
+            Reason::QuantityOutOfRange => Entry {
+                number: 5,
+                party: Party::WhoWroteTheWords,
+                place: Place::Word,
+                sentence: "The quantity in word PLACE is out of range.",
+                advice: "Scale above 20 (probability: 12), coefficient above 999,999, or 0 where only P and deviations may be 0.",
+            },
+            Reason::FieldOutOfRange => Entry {
+                number: 6,
+                party: Party::WhoWroteTheWords,
+                place: Place::Word,
+                sentence: "Word PLACE has an edition, state or limit out of range.",
+                advice: "Edition 1; N 1 to 1,000; states 1 to N; L and V 1 to 24.",
+            },
+            Reason::SelfTransition => Entry {
+                number: 7,
+                party: Party::WhoDrewTheModel,
+                place: Place::Word,
+                sentence: "The transition at word PLACE leads from a state to itself.",
+                advice: "Leave it out, or draw the state it means.",
+            },
+            Reason::DuplicateTransition => Entry {
+                number: 8,
+                party: Party::WhoDrewTheModel,
+                place: Place::Word,
+                sentence: "The transition at word PLACE repeats an earlier one between the same two states.",
+                advice: "Add the rates, or see \"Parallel transitions\" in MODELS.md.",
+            },
+            Reason::TooManyTransitions => Entry {
+                number: 9,
+                party: Party::WhoDrewTheModel,
+                place: Place::Word,
+                sentence: "The transition at word PLACE is the 17th exit of its state or the 4,001st of the model.",
+                advice: "Put exits together that lead to equal states.",
+            },
+            Reason::ProbabilitiesNotOne => Entry {
+                number: 10,
+                party: Party::WhoDrewTheModel,
+                place: Place::State,
+                sentence: "The probabilities of the fast exits of state PLACE do not add up to exactly 1.",
+                advice: "See \"Probabilities\" in MODELS.md. Every state is tested, reached or not.",
+            },
+            Reason::StartWithoutExits => Entry {
+                number: 11,
+                party: Party::WhoDrewTheModel,
+                place: Place::State,
+                sentence: "The start state PLACE has no exits.",
+                advice: "The start field of the head, or a forgotten transition.",
+            },
+            Reason::OverBudget => Entry {
+                number: 13,
+                party: Party::Caller,
+                place: Place::Nothing,
+                sentence: "The model has more steps than the budget allows.",
+                advice: "Raise the budget; else raise P, or lower V or L, which as a rule makes `cut` greater.",
+            },
         }
     }
 
-    /// The reason of a number, if it is one.
+    /// Document 01's number.
+    pub fn number(self) -> u64 {
+        self.entry().number
+    }
+
+    /// The reason of a number, if it is one that this version knows.
     pub fn of(number: u64) -> Option<Reason> {
         Reason::ALL.into_iter().find(|reason| reason.number() == number)
     }
 
     pub fn party(self) -> Party {
-        match self {
-            Reason::TooManyWords | Reason::BudgetOutOfRange | Reason::OverBudget => Party::Caller,
-            Reason::WrongKind
-            | Reason::BitSet
-            | Reason::QuantityOutOfRange
-            | Reason::FieldOutOfRange => Party::WhoWroteTheWords,
-            _ => Party::WhoDrewTheModel,
-        }
+        self.entry().party
     }
 
-    /// A sentence that a tool can show beside the place.
+    pub fn place(self) -> Place {
+        self.entry().place
+    }
+
+    /// A sentence that a tool can show. Where it says PLACE, the place belongs; [`Refusal::sentence`] puts it there.
     pub fn sentence(self) -> &'static str {
-        match self {
-            Reason::TooManyWords => "The model has more than 16,005 words.",
-            Reason::BudgetOutOfRange => "The budget is not from 1 to 1,000,000.",
-            Reason::WrongKind => "The word at this place is of another kind than its place calls for, is missing, or follows the end.",
-            Reason::BitSet => "The word at this place has a bit set that must be zero.",
-            Reason::QuantityOutOfRange => "The quantity at this place has its scale or its coefficient out of range.",
-            Reason::FieldOutOfRange => "The word at this place has an edition, number of states, start, limit or state number out of range.",
-            Reason::SelfTransition => "The transition at this place leads from a state to itself.",
-            Reason::DuplicateTransition => "The transition at this place stood earlier, with the same kind and between the same two states.",
-            Reason::TooManyTransitions => "The transition at this place is the 17th exit of its state or the 4,001st transition.",
-            Reason::ProbabilitiesNotOne => "The probabilities of this state's fast exits do not sum to exactly 1.",
-            Reason::StartWithoutExits => "The start state has no exits.",
-            Reason::OverBudget => "The cut tree has more steps than the budget.",
+        self.entry().sentence
+    }
+
+    /// What to look at.
+    pub fn advice(self) -> &'static str {
+        self.entry().advice
+    }
+}
+
+impl Refusal {
+    /// The sentence with the place in it.
+    pub fn sentence(self) -> Sentence {
+        Sentence(self)
+    }
+}
+
+/// A refusal's sentence, with its place.
+#[derive(Clone, Copy, Debug)]
+pub struct Sentence(Refusal);
+
+impl fmt::Display for Sentence {
+    fn fmt(&self, out: &mut fmt::Formatter<'_>) -> fmt::Result {
+        let Sentence(Refusal { reason, place }) = self;
+        match reason.sentence().split_once("PLACE") {
+            Some((before, behind)) => write!(out, "{before}{place}{behind}"),
+            None => out.write_str(reason.sentence()),
         }
     }
 }
@@ -110,4 +219,4 @@ impl fmt::Display for Refusal {
     }
 }
 
-impl Error for Refusal {}
+impl core::error::Error for Refusal {}

@@ -1,8 +1,9 @@
 use crate::Figure;
-use std::fmt;
+use core::fmt;
 
-/// What is reported on a model that was not refused.
+/// What is reported on a model that was not refused. Later versions add to it.
 #[derive(Clone, Copy, Debug, PartialEq, Eq)]
+#[non_exhaustive]
 pub struct Report {
     /// Not above the exact lower sum.
     pub lower: Figure,

@@ -174,11 +174,66 @@ static void check_edges(void)
     static uint32_t words[BOUNDS_WORDS_SIZE];
     if (bounds_words(much, sizeof much, words) != BOUNDS_WORDS_SIZE)
         fail("the number of words", "more bytes than any model");
-    for (uint64_t refusal = 0; refusal < 20; refusal++) {
+}
+
+/* ---- What is inline */
+
+/* Every number but 0 has a sentence, and one that is no number of document 01's says that it is not known. */
+static void check_sentences(void)
+{
+    const char *unknown = bounds_sentence(12);
+    char text[BOUNDS_SENTENCE_SIZE + GUARD];
+    for (uint64_t refusal = 0; refusal <= 64; refusal++) {
         int known = (refusal >= 1 && refusal <= 11) || refusal == 13;
-        if ((*bounds_sentence(refusal) != '\0') != known)
+        const char *sentence = bounds_sentence(refusal);
+        if ((*sentence == '\0') != (refusal == 0) || (strcmp(sentence, unknown) == 0) != (refusal != 0 && !known))
             fail("a sentence too many or too few", "bounds_sentence");
+        memset(text, 0xA5, sizeof text);
+        bounds_sentence_at(refusal, UINT64_MAX, text);
+        if (strlen(text) >= BOUNDS_SENTENCE_SIZE || strstr(text, "PLACE") != NULL)
+            fail("a sentence with its place", "bounds_sentence_at");
     }
+    if (strcmp(bounds_sentence_at(11, 17, text), "The start state 17 has no exits.") != 0)
+        fail("a sentence with its place", "bounds_sentence_at");
+    if (strcmp(bounds_sentence_at(11, 0, text), "The start state 0 has no exits.") != 0)
+        fail("a sentence with its place", "bounds_sentence_at");
+    if (strcmp(bounds_sentence_at(BOUNDS_OTHER_VERSION, 0, text), unknown) == 0)
+        fail("another version", "bounds_sentence_at");
+}
+
+static void check_version(void)
+{
+    if (bounds_version() != BOUNDS_VERSION || !bounds_version_agrees())
+        fail("the archive has another version than the header", "bounds_version");
+    if (BOUNDS_MAJOR(12034005) != 12 || BOUNDS_MINOR(12034005) != 34 || BOUNDS_PATCH(12034005) != 5)
+        fail("its parts", "bounds_version");
+}
+
+/* A figure is at or below a limit of its own, also where the double above it is greater than the double that stands for the limit. */
+static void check_order(void)
+{
+    static const bounds_figure rising[] = {
+        { 0, 0 }, { 100000000, INT32_MIN }, { 100000000, -20 }, { 999999999, -18 }, { 100000000, -17 }, { 100000001, -17 }, { 100000000, 0 },
+        { 999999999, INT32_MAX },
+    };
+    static const bounds_figure none[] = { { 0, 1 }, { 1, 0 }, { 99999999, -8 }, { 1000000000, -8 }, { UINT64_MAX, 0 } };
+    const size_t figures = sizeof rising / sizeof rising[0];
+    for (size_t i = 0; i < figures; i++) {
+        for (size_t j = 0; j < figures; j++) {
+            uint64_t answer = bounds_at_or_below(rising[i].digits, rising[i].power, rising[j].digits, rising[j].power);
+            if (answer != (i <= j) || bounds_meets(rising[i], rising[j]) != (i <= j))
+                fail("the order of two figures", "bounds_at_or_below");
+        }
+        for (size_t j = 0; j < sizeof none / sizeof none[0]; j++) {
+            if (bounds_at_or_below(rising[i].digits, rising[i].power, none[j].digits, none[j].power) != 2 || bounds_meets(rising[i], none[j]))
+                fail("a limit that is no figure", "bounds_at_or_below");
+            if (bounds_at_or_below(none[j].digits, none[j].power, rising[i].digits, rising[i].power) != 2 || bounds_meets(none[j], rising[i]))
+                fail("what is no figure", "bounds_at_or_below");
+        }
+    }
+    bounds_figure millionth = { 100000000, -14 };
+    if (!bounds_meets(millionth, millionth) || bounds_double_above(millionth) <= 1E-6)
+        fail("a millionth", "bounds_at_or_below");
 }
 
 /* ---- Calls at once */
@@ -221,6 +276,9 @@ int main(int count, char **arguments)
     }
     long models = 0;
     program = arguments[1];
+    check_version();
+    check_sentences();
+    check_order();
     check_edges();
     check_threads();
     for (int i = 2; i < count; i++)

@@ -1,11 +1,24 @@
 /*
- * The doubles of bounds.h lie on their side of the figure, and none lies nearer. Each is compared with the figure exactly: the figure is
- * digits * 10^power, the double whole * 2^scale, and the two are multiplied out to whole numbers.
+ * Tries bounds_double_above and bounds_double_below: each double lies on its side of the figure, and none lies nearer. Each is compared with the
+ * figure exactly: the figure is digits * 10^power, the double whole * 2^scale, and the two are multiplied out to whole numbers.
+ *
+ * All of it runs under each of the four rounding modes. Doubles are looked at by their bits alone, so that the test itself does no floating-point
+ * arithmetic either and says the same when it is built with -ffast-math.
  */
 #include "../../include/bounds.h"
-#include <math.h>
+#include <fenv.h>
 #include <stdio.h>
 #include <stdlib.h>
+
+/* The bits of positive doubles are in the order of the doubles, and the next double is one more. */
+static const uint64_t ONE = 0x3FF0000000000000u, LEAST = 1, GREATEST = 0x7FEFFFFFFFFFFFFFu, INFINITE = 0x7FF0000000000000u;
+
+static uint64_t bits_of(double x)
+{
+    uint64_t bits;
+    memcpy(&bits, &x, sizeof bits);
+    return bits;
+}
 
 enum { LIMBS = 160 };
 
@@ -39,17 +52,18 @@ static number of(uint64_t n)
     return r;
 }
 
-/* The figure and the double x, which is finite and not negative, both multiplied by the same, so that they are whole numbers. */
+/* The figure and the double of these bits, which is finite and not negative, both multiplied by the same, so that they are whole numbers. */
 typedef struct {
     number figure;
     number x;
 } pair;
 
-static pair multiplied_out(uint64_t digits, int32_t power, double x)
+static pair multiplied_out(uint64_t digits, int32_t power, uint64_t bits)
 {
-    int scale;
-    uint64_t whole = (uint64_t)ldexp(frexp(x, &scale), 53);
-    scale -= 53;
+    uint64_t part = bits & 0xFFFFFFFFFFFFFu;
+    int field = (int)(bits >> 52);
+    uint64_t whole = field == 0 ? part : part + (1ull << 52);
+    int scale = (field == 0 ? 1 : field) - 1075;
     pair p = { times(times(of(digits), 10, power), 2, -scale), times(times(of(whole), 2, scale), 10, -power) };
     return p;
 }
@@ -63,12 +77,12 @@ static int order(const number *a, const number *b)
     return 0;
 }
 
-/* The order of the figure and the double x, which is not negative. */
-static int compare(uint64_t digits, int32_t power, double x)
+/* The order of the figure and the double of these bits, which is not negative. */
+static int compare(uint64_t digits, int32_t power, uint64_t bits)
 {
-    if (isinf(x))
+    if (bits == INFINITE)
         return -1;
-    pair p = multiplied_out(digits, power, x);
+    pair p = multiplied_out(digits, power, bits);
     return order(&p.figure, &p.x);
 }
 
@@ -86,19 +100,35 @@ static number minus(number a, const number *b)
 
 static long tried, exact;
 
-static void check(uint64_t digits, int32_t power)
+static uint64_t above_of(uint64_t digits, int32_t power)
 {
     bounds_figure f = { digits, power };
-    double above = bounds_double_above(f), below = bounds_double_below(f);
-    int good = compare(digits, power, above) <= 0 && compare(digits, power, below) >= 0;
+    return bits_of(bounds_double_above(f));
+}
+
+static uint64_t below_of(uint64_t digits, int32_t power)
+{
+    bounds_figure f = { digits, power };
+    return bits_of(bounds_double_below(f));
+}
+
+static void wrong(uint64_t digits, int32_t power, uint64_t bits)
+{
+    fprintf(stderr, "doubles: %llu and %d: bits %016llx\n", (unsigned long long)digits, power, (unsigned long long)bits);
+    exit(1);
+}
+
+static void check(uint64_t digits, int32_t power)
+{
+    uint64_t above = above_of(digits, power), below = below_of(digits, power);
+    int good = above <= INFINITE && below <= GREATEST; /* what lies beyond is no number */
+    good = good && compare(digits, power, above) <= 0 && compare(digits, power, below) >= 0;
     if (above == below)
         good = good && compare(digits, power, above) == 0;
     else
-        good = good && nextafter(below, INFINITY) == above && compare(digits, power, above) < 0 && compare(digits, power, below) > 0;
-    if (!good) {
-        fprintf(stderr, "doubles: %llu and %d: %a %a\n", (unsigned long long)digits, power, below, above);
-        exit(1);
-    }
+        good = good && below + 1 == above && compare(digits, power, above) < 0 && compare(digits, power, below) > 0;
+    if (!good)
+        wrong(digits, power, above);
     tried++;
     exact += above == below;
 }
@@ -114,45 +144,42 @@ static void check(uint64_t digits, int32_t power)
 static const struct {
     uint64_t digits;
     int32_t power;
-    double x;
+    uint64_t x;
 } near_above[] = {
     /* the figure is above x, by x times 2^-89, 2^-87, 2^-86, 2^-87, 2^-85, 2^-86, 2^-79, 2^-89 and 2^-93 */
-    { 175150874, -310, 0x1.805c19e680456p-1003 },
-    { 820858081, -151, 0x1.004052146aed2p-472 },
-    { 420526983, -50, 0x1.771f62f7c536bp-138 },
-    { 989648089, -35, 0x1.880a3d515e849p-87 },
-    { 197403521, -27, 0x1.d21b1b515686fp-63 },
-    { 371790617, -25, 0x1.56ea93d1afbb0p-55 },
-    { 575532651, 22, 0x1.2291da082d155p+102 },
-    { 325270231, 39, 0x1.c7ccf90c9f8abp+157 },
-    { 245540327, 121, 0x1.c569e968e0944p+429 },
+    { 175150874, -310, 0x014805C19E680456u },
+    { 820858081, -151, 0x227004052146AED2u },
+    { 420526983, -50, 0x375771F62F7C536Bu },
+    { 989648089, -35, 0x3A8880A3D515E849u },
+    { 197403521, -27, 0x3C0D21B1B515686Fu },
+    { 371790617, -25, 0x3C856EA93D1AFBB0u },
+    { 575532651, 22, 0x4652291DA082D155u },
+    { 325270231, 39, 0x49CC7CCF90C9F8ABu },
+    { 245540327, 121, 0x5ACC569E968E0944u },
 }, near_below[] = {
     /* the figure is below x, by x times 2^-84, 2^-89, 2^-91, 2^-86, 2^-85, 2^-85, 2^-77, 2^-89 and 2^-87 */
-    { 179941541, -304, 0x1.78947479f53adp-983 },
-    { 282926897, -227, 0x1.ff5a70d3d2fefp-727 },
-    { 971212611, -126, 0x1.397d3c9745d2fp-389 },
-    { 140352706, -53, 0x1.00683a21de855p-149 },
-    { 161110172, -32, 0x1.f29ca0ff893b1p-80 },
-    { 145644771, -14, 0x1.86f653140a659p-20 },
-    { 306364956, 22, 0x1.35597c2852810p+101 },
-    { 229058583, 52, 0x1.6ce94febdc7a5p+200 },
-    { 784853891, 229, 0x1.348e02b28315ap+790 },
+    { 179941541, -304, 0x02878947479F53ADu },
+    { 282926897, -227, 0x128FF5A70D3D2FEFu },
+    { 971212611, -126, 0x27A397D3C9745D2Fu },
+    { 140352706, -53, 0x36A00683A21DE855u },
+    { 161110172, -32, 0x3AFF29CA0FF893B1u },
+    { 145644771, -14, 0x3EB86F653140A659u },
+    { 306364956, 22, 0x46435597C2852810u },
+    { 229058583, 52, 0x4C76CE94FEBDC7A5u },
+    { 784853891, 229, 0x715348E02B28315Au },
 };
 
 /* The figure lies on its side of x, so near. One of its two doubles is x, the other the next on the figure's side. */
-static void check_near(uint64_t digits, int32_t power, double x, int above)
+static void check_near(uint64_t digits, int32_t power, uint64_t x, int above)
 {
-    bounds_figure f = { digits, power };
     pair p = multiplied_out(digits, power, x);
     number gap = above ? minus(p.figure, &p.x) : minus(p.x, &p.figure);
     gap = times(gap, 2, 64);
     int good = compare(digits, power, x) == (above ? 1 : -1) && order(&gap, &p.x) < 0;
-    good = good && bounds_double_below(f) == (above ? x : nextafter(x, 0.0));
-    good = good && bounds_double_above(f) == (above ? nextafter(x, INFINITY) : x);
-    if (!good) {
-        fprintf(stderr, "doubles: %llu and %d, at %a\n", (unsigned long long)digits, power, x);
-        exit(1);
-    }
+    good = good && below_of(digits, power) == (above ? x : x - 1);
+    good = good && above_of(digits, power) == (above ? x + 1 : x);
+    if (!good)
+        wrong(digits, power, x);
     check(digits, power);
 }
 
@@ -166,15 +193,31 @@ static uint64_t next(void)
     return state;
 }
 
-static void same(double x, double y)
+static void same(uint64_t bits, uint64_t expected)
 {
-    if (x != y) {
-        fprintf(stderr, "doubles: %a is not %a\n", x, y);
+    if (bits != expected) {
+        fprintf(stderr, "doubles: bits %016llx, not %016llx\n", (unsigned long long)bits, (unsigned long long)expected);
         exit(1);
     }
 }
 
-int main(void)
+/* Known values, and powers that no double reaches. */
+static void check_known(void)
+{
+    const uint64_t tenth = 0x3FB999999999999Au; /* the double nearest to a tenth, which lies above it */
+    same(below_of(0, 0), 0);
+    same(above_of(0, 0), 0);
+    same(below_of(100000000, -8), ONE);
+    same(above_of(100000000, -8), ONE);
+    same(below_of(100000000, -9), tenth - 1);
+    same(above_of(100000000, -9), tenth);
+    same(below_of(999999999, INT32_MAX), GREATEST);
+    same(above_of(999999999, INT32_MAX), INFINITE);
+    same(below_of(999999999, INT32_MIN), 0);
+    same(above_of(999999999, INT32_MIN), LEAST);
+}
+
+static void check_all(void)
 {
     static const uint64_t edges[] = {
         100000000, 100000001, 123456789, 500000000, 999999999, 179769313, 179769314, 494065645, 494065646,
@@ -183,27 +226,27 @@ int main(void)
     for (size_t i = 0; i < sizeof edges / sizeof edges[0]; i++)
         for (int32_t power = -360; power <= 312; power++)
             check(edges[i], power);
-    for (int i = 0; i < 6000; i++)
+    for (int i = 0; i < 3000; i++)
         check(100000000 + next() % 900000000, (int32_t)(next() % 670) - 360);
-    for (int i = 0; i < 6000; i++)
+    for (int i = 0; i < 3000; i++)
         check(100000000 + next() % 900000000, (int32_t)(next() % 40) - 35);
-
     for (size_t i = 0; i < sizeof near_above / sizeof near_above[0]; i++)
         check_near(near_above[i].digits, near_above[i].power, near_above[i].x, 1);
     for (size_t i = 0; i < sizeof near_below / sizeof near_below[0]; i++)
         check_near(near_below[i].digits, near_below[i].power, near_below[i].x, 0);
+    check_known();
+}
 
-    /* Known values, and powers that no double reaches. */
-    same(bounds_double(0, 0, 0), 0.0);
-    same(bounds_double(0, 0, 1), 0.0);
-    same(bounds_double(100000000, -8, 0), 1.0);
-    same(bounds_double(100000000, -8, 1), 1.0);
-    same(bounds_double(100000000, -9, 0), nextafter(0.1, 0.0)); /* 0.1 itself is a double above a tenth */
-    same(bounds_double(100000000, -9, 1), 0.1);
-    same(bounds_double(999999999, INT32_MAX, 0), DBL_MAX);
-    same(bounds_double(999999999, INT32_MAX, 1), INFINITY);
-    same(bounds_double(999999999, INT32_MIN, 0), 0.0);
-    same(bounds_double(999999999, INT32_MIN, 1), nextafter(0.0, 1.0));
-    printf("doubles: %ld figures, %ld of them doubles themselves\n", tried, exact);
+int main(void)
+{
+    static const int modes[] = { FE_TONEAREST, FE_UPWARD, FE_DOWNWARD, FE_TOWARDZERO };
+    for (size_t i = 0; i < sizeof modes / sizeof modes[0]; i++) {
+        if (fesetround(modes[i]) != 0) {
+            fprintf(stderr, "doubles: no such rounding mode\n");
+            return 1;
+        }
+        check_all();
+    }
+    printf("doubles: %ld figures under four rounding modes, %ld of them doubles themselves\n", tried, exact);
     return 0;
 }

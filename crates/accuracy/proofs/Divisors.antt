@@ -10,8 +10,8 @@ use Rattle.fraction.proofs.Ratio.{Ratio, ≈-ge, ⊗-pos, ofℕ-pos, pos-≼}
 use Rattle.fraction.proofs.Inverse.{inv-pos}
 use Rattle.fraction.proofs.Signed.{signed-positive}
 use Rattle.fraction.proofs.Quotients.{Positive, whole-positive, ^ᶠ-positive}
-use Rattle.model.specs.Model.{Transition, Net, Model}
-use Rattle.model.proofs.Valid.{Valid}
+use Rattle.word.specs.Model.{Transition, Net, Model}
+use Rattle.model.specs.Internal.Valid.{Valid}
 use Rattle.tree.specs.Paths.{Path, class1, class, class1-count}
 use Rattle.tree.specs.Grains.{grains}
 use Rattle.tree.proofs.Least.{grains-low}

@@ -10,8 +10,8 @@ use Rattle.fraction.proofs.Ratio.{Ratio, _≈_, ofℕ, _⊕_, _⊗_, _⊖_, ≈
 use Rattle.fraction.proofs.Certificate.{_*'_, same-value}
 use Rattle.fraction.proofs.Inverse.{inv, inv-cong, inv-⊗, inv-inv}
 use Rattle.fraction.proofs.Powers.{pow, pow-two, pow-⊗, pow-inv, pow-ofℕ}
-use Rattle.model.specs.declared.Quantity.{Quantity}
-use Rattle.model.specs.Model.{Manner, slow, fast, Transition, Net, any}
+use Rattle.word.specs.declared.Quantity.{Quantity}
+use Rattle.word.specs.Model.{Manner, slow, fast, Transition, Net, any}
 use Rattle.tree.specs.Paths.{Path, Class, class1, class2, class3, class, class1-count}
 use Rattle.tree.specs.Grains.{grain-sum}
 use Rattle.accuracy.specs.States.{exact-rate-sum, exact-mean, exact-moment-sum}

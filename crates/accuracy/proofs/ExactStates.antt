@@ -10,9 +10,9 @@ use Rattle.fraction.proofs.Certificate.{_*'_, prove, hyp}
 use Rattle.fraction.proofs.Inverse.{inv, inv-is, _over_}
 use Rattle.fraction.proofs.Powers.{pow-two}
 use Rattle.fraction.proofs.Signed.{signed-ratio, signed-⊖, signed-whole}
-use Rattle.model.specs.declared.Quantity.{Quantity}
-use Rattle.model.specs.Model.{Manner, slow, fast, Transition, Net, exits}
-use Rattle.model.proofs.Members.{each-of-members}
+use Rattle.word.specs.declared.Quantity.{Quantity}
+use Rattle.word.specs.Model.{Manner, slow, fast, Transition, Net, exits}
+use Rattle.word.proofs.Members.{each-of-members}
 use Rattle.tree.specs.States.{sum-over}
 use Rattle.tree.specs.Lower.{exact, remaining-time}
 use Rattle.accuracy.specs.States.{moment, add-exact-rate, add-exact-mean, add-exact-moment, exact-rate-sum, exact-mean, exact-moment-sum, exact-share}

@@ -10,7 +10,7 @@ use Rattle.fraction.proofs.Ratio.{Ratio, _≈_, ofℕ, _⊗_, ≈-refl, ≈-sym
 use Rattle.fraction.proofs.Certificate.{_*'_, same-value}
 use Rattle.fraction.proofs.Inverse.{inv, inv-cong, inv-⊗, _over_}
 use Rattle.fraction.proofs.Powers.{pow}
-use Rattle.model.specs.Model.{Manner, Transition, Net}
+use Rattle.word.specs.Model.{Manner, Transition, Net}
 use Rattle.tree.specs.Paths.{Path, Class, class1, class2, class3, class, class1-count, counts-1}
 use Rattle.accuracy.specs.Bounds.{factorial, product, power-over-factorial, class1-rate, class1-rates}
 use Rattle.accuracy.proofs.Natural.{_is_, is-≈, is-whole, is-product, is-quotient, is-power}

@@ -2,7 +2,7 @@
 -- rate × h for each class 3 step". Assumes nothing.
 use mathlib.Core.List.{[], _∷_, _++_}
 use Rattle.fraction.proofs.Ratio.{Ratio, ofℕ, _⊗_, ≈-sym, ⊗-one}
-use Rattle.model.specs.Model.{Transition, Net}
+use Rattle.word.specs.Model.{Transition, Net}
 use Rattle.tree.specs.Paths.{Path, Class, class1, class2, class3, class, class1-count}
 use Rattle.accuracy.specs.Bounds.{product, upper-factor, upper-factors, exact-upper}
 use Rattle.accuracy.proofs.Natural.{_is_, is-≈, is-whole, is-product}

@@ -16,9 +16,10 @@ use Rattle.figure.specs.declared.Figure.{Figure}
 use Rattle.figure.specs.Rounding.{none, up, down}
 use Rattle.figure.specs.Operations.{times-up, times-down, divided-up, of-whole}
 use Rattle.figure.proofs.Exact.{natural-of-whole}
-use Rattle.model.specs.declared.Quantity.{Quantity}
-use Rattle.model.specs.Model.{Manner, slow, fast, Transition, Net, Model}
-use Rattle.model.proofs.Valid.{Each, InRange, ValidManner, Valid}
+use Rattle.word.specs.declared.Quantity.{Quantity}
+use Rattle.word.specs.Model.{Manner, slow, fast, Transition, Net, Model}
+use Rattle.word.specs.Internal.Lists.{Each}
+use Rattle.model.specs.Internal.Valid.{InRange, ValidManner, Valid}
 use Rattle.tree.specs.Paths.{Path, Class, class1, class2, class3, class, class1-count, counts-1}
 use Rattle.tree.specs.States.{mission-time, time-squared, rate-sum}
 use Rattle.tree.specs.Grains.{grain-sum}

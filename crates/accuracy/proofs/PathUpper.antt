@@ -8,8 +8,9 @@ use lib.Dec.{lit≤}
 use lib.ListN.{length}
 use Rattle.fraction.proofs.Ratio.{Ratio, ⊗-assoc}
 use Rattle.figure.specs.declared.Figure.{Figure}
-use Rattle.model.specs.Model.{Transition, Model}
-use Rattle.model.proofs.Valid.{Each, ValidManner, Valid}
+use Rattle.word.specs.Model.{Transition, Model}
+use Rattle.word.specs.Internal.Lists.{Each}
+use Rattle.model.specs.Internal.Valid.{ValidManner, Valid}
 use Rattle.tree.specs.Paths.{Path, Class, class1, class2, class3, class, class1-count, counts-1}
 use Rattle.tree.specs.Upper.{upper-step, upper}
 use Rattle.tree.proofs.Positive.{ValidSteps}

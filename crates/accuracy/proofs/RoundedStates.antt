@@ -9,9 +9,9 @@ use Rattle.figure.specs.declared.Figure.{Figure}
 use Rattle.figure.specs.Rounding.{none}
 use Rattle.figure.proofs.Value.{val}
 use Rattle.figure.proofs.Scale.{pow-pos}
-use Rattle.model.specs.declared.Quantity.{Quantity}
-use Rattle.model.specs.Model.{Manner, slow, fast, Model, exits}
-use Rattle.model.proofs.Valid.{InRange, ValidManner, Valid}
+use Rattle.word.specs.declared.Quantity.{Quantity}
+use Rattle.word.specs.Model.{Manner, slow, fast, Model, exits}
+use Rattle.model.specs.Internal.Valid.{InRange, ValidManner, Valid}
 use Rattle.tree.specs.States.{figure-of, second-moment, sum-over, add-rate, add-mean-up, add-mean-down, add-moment, rate-sum, mean-up, mean-down, moment-sum}
 use Rattle.tree.specs.Upper.{share}
 use Rattle.tree.proofs.Quantities as tree

@@ -9,11 +9,12 @@ use native.Mathlib.Bridge.{le-prop}
 use native.Mathlib.Omega.{arith}
 use lib.Dec.{lit≤}
 use lib.ListN.{length}
-use Rattle.figure.specs.Operations.{to-nine-down, sum-to-nine-up}
-use Rattle.model.specs.declared.Quantity.{Quantity}
-use Rattle.model.specs.Model.{Manner, slow, fast, Transition, Net, Model, exits}
-use Rattle.model.proofs.Valid.{Each, InRange, ValidManner, Valid}
-use Rattle.model.proofs.Members.{each-member, each-monotone, each-of-members}
+use Rattle.figure.specs.Operations.{to-nine-up, to-nine-down, sum-to-nine-up}
+use Rattle.word.specs.declared.Quantity.{Quantity}
+use Rattle.word.specs.Model.{Manner, slow, fast, Transition, Net, Model, exits}
+use Rattle.word.specs.Internal.Lists.{Each}
+use Rattle.model.specs.Internal.Valid.{InRange, ValidManner, Valid}
+use Rattle.word.proofs.Members.{each-member, each-monotone, each-of-members}
 use Rattle.tree.specs.Paths.{Path, last-state, IsPath, Class, class1, class2, class3, class}
 use Rattle.tree.specs.Upper.{upper}
 use Rattle.tree.specs.Grains.{grains}
@@ -86,7 +87,7 @@ module _ {m : Model} (valid : Valid m) where
     pub any-grains-accurate : length visits ≤ 1000000
         → AccurateSums (exact-upper net) (λ p. exact-lower-with net (g p) p) (deaths visits) (cuts visits)
         (sum-to-nine-up (total-of-uppers (upper net) (deaths visits)) (total-of-uppers (upper net) (cuts visits)))
-        (to-nine-down (total-of-lowers (λ p. lower-with net (g p) p) (deaths visits)))
+        (to-nine-down (total-of-lowers (λ p. lower-with net (g p) p) (deaths visits))) (to-nine-up (total-of-uppers (upper net) (cuts visits)))
     any-grains-accurate few =
         sums-accurate (exact-upper net) (λ p. exact-lower-with net (g p) p) (upper net) (λ p. lower-with net (g p) p)
         456 1500 (lit≤ tt) (lit≤ tt) (deaths visits) (cuts visits)

@@ -5,7 +5,7 @@ use mathlib.Core.Bool.{Bool, true, false}
 use mathlib.Core.List.{List, [], _∷_, _++_}
 use lib.Dec.{leb}
 use Rattle.fraction.specs.Fraction.{Fraction, whole, at-most, _+ᶠ_, _-ᶠ_, _*ᶠ_, _/ᶠ_, _^ᶠ_}
-use Rattle.model.specs.Model.{Manner, slow, fast, Transition, Net, any}
+use Rattle.word.specs.Model.{Manner, slow, fast, Transition, Net, any}
 use Rattle.tree.specs.Paths.{Path, Class, class1, class2, class3, class, class1-count}
 use Rattle.tree.specs.Grains.{grains, grain-sum}
 use Rattle.tree.specs.Lower.{exact, remaining-time}

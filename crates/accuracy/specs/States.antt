@@ -3,8 +3,8 @@
 -- Assumes nothing: these are definitions.
 use Prim.Native.Nat.{ℕ}
 use Rattle.fraction.specs.Fraction.{Fraction, whole, _+ᶠ_, _*ᶠ_, _^ᶠ_}
-use Rattle.model.specs.declared.Quantity.{Quantity}
-use Rattle.model.specs.Model.{Manner, slow, fast, Net, exits}
+use Rattle.word.specs.declared.Quantity.{Quantity}
+use Rattle.word.specs.Model.{Manner, slow, fast, Net, exits}
 use Rattle.tree.specs.States.{sum-over}
 use Rattle.tree.specs.Lower.{exact}
 

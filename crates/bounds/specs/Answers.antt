@@ -3,12 +3,14 @@ use Prim.Native.Nat.{ℕ, _<_}
 use mathlib.Core.Path.{_≡_}
 use mathlib.Core.List.{List}
 use lib.ListN.{length}
-use Rattle.model.specs.Model.{Model}
+use Rattle.word.specs.Model.{Model}
+use Rattle.word.specs.Answer as answers
 use Rattle.model.specs.Reading as reading
-use Rattle.model.specs.Refusal.{number, place}
+use Rattle.word.specs.Refusal.{number, place}
 use Rattle.tree.specs.Tree.{tree}
 use Rattle.tree.specs.Report as definition
 use Rattle.accuracy.specs.Rule.{AccuracyRule}
+use Rattle.bounds.specs.Faithful.{Faithful}
 use Rattle.bounds.specs.declared.Report.{Report}
 use Rattle.bounds.specs.declared.Answer.{Answer}
 use Rattle.bounds.specs.declared.Answer.the-variants.{Report as reported, Refused}
@@ -17,9 +19,9 @@ abbrev pub report-of : Report → definition.Report
 report-of r = record { lower = r .lower; upper = r .upper; cut = r .cut; deaths = r .deaths; cuts = r .cuts; steps = r .steps }
 
 -- document 01's answer for each case of the code's: the report, or the refusal's number and place
-abbrev pub answer-of : Answer → reading.Answer definition.Report
-answer-of (reported r) = reading.granted (report-of r)
-answer-of (Refused f) = reading.refused (number f) (place f)
+abbrev pub answer-of : Answer → answers.Answer definition.Report
+answer-of (reported r) = answers.granted (report-of r)
+answer-of (Refused f) = answers.refused (number f) (place f)
 
 -- What `unreliability` promises, of the words before and after, the budget and its answer.
 pub record Promised (before after : List ℕ) (budget : ℕ) (r : Answer) : Type 0 where
@@ -32,10 +34,12 @@ pub record Promised (before after : List ℕ) (budget : ℕ) (r : Answer) : Type
   -- the lent words are unchanged
   pub words-unchanged : after ≡ before
   -- in a report the steps are the count of paths in the cut tree
-  pub steps-are : (m : Model) (q : definition.Report) → reading.read before budget ≡ reading.granted m → answer-of r ≡ reading.granted q
+  pub steps-are : (m : Model) (q : definition.Report) → reading.read before budget ≡ answers.granted m → answer-of r ≡ answers.granted q
       → q .steps ≡ length (tree (m .net) (m .limits))
   -- an allowed budget is refused exactly when the tree has more steps than it ("13: the cut tree has more steps than the budget. Place 0.")
-  pub refused-over : (m : Model) → reading.read before budget ≡ reading.granted m → budget < length (tree (m .net) (m .limits))
-      → answer-of r ≡ reading.refused 13 0
-  pub over-refused : (m : Model) → reading.read before budget ≡ reading.granted m → answer-of r ≡ reading.refused 13 0
+  pub refused-over : (m : Model) → reading.read before budget ≡ answers.granted m → budget < length (tree (m .net) (m .limits))
+      → answer-of r ≡ answers.refused 13 0
+  pub over-refused : (m : Model) → reading.read before budget ≡ answers.granted m → answer-of r ≡ answers.refused 13 0
       → budget < length (tree (m .net) (m .limits))
+  -- the definitions that all this rests on are what document 01 says of them
+  pub faithful : Faithful

@@ -1,6 +1,3 @@
-pub mod Tables
-pub mod Steps
-pub mod Roots
-pub mod Deaths
-pub mod Walk
+pub mod Internal
+pub mod Faithful
 pub mod Answers

@@ -1,1 +1,2 @@
-pub mod Exports
+mod Exports
+mod Compared

@@ -1,9 +1,15 @@
--- What the exported functions promise: an answer as plain numbers, and its text. Assumes nothing: these are definitions.
-use Prim.Native.Nat.{ℕ, _≤_}
+-- What the exported functions promise: an answer as plain numbers, its text, how two figures compare, and the version. Assumes nothing: these are
+-- definitions.
+use Prim.Native.Nat.{ℕ, _+_, _*_, _≤_}
 use mathlib.Core.Path.{_≡_}
+use mathlib.Core.Bool.{Bool, true, false}
 use mathlib.Core.List.{List, [], _∷_}
 use lib.ListN.{length, take}
-use lib.IntN.{ℤ}
+use lib.Dec.{eqb, ltb}
+use lib.IntN.{ℤ, pos, negsuc}
+use Rattle.figure.specs.declared.Figure.{Figure}
+use Rattle.figure.specs.Rounding.{IsFigure}
+use Rattle.figure.specs.Operations.{at-or-below}
 use Rattle.tree.specs.Report.{Values, values, answer}
 use Rattle.accuracy.specs.Rule.{AccuracyRule}
 use Rattle.text.specs.Text.{answer-text}
@@ -33,4 +39,45 @@ pub record Assessed (before after : List ℕ) (budget : ℕ) (number : ℕ) (num
 pub record Texted (before after : List ℕ) (budget : ℕ) (bytes : List ℕ) (n : ℕ) : Type 0 where
   pub within : n ≤ length bytes
   pub text-is : take n bytes ≡ answer-text (answer before budget)
+  -- the accuracy rule holds of that answer
+  pub accuracy : AccuracyRule before budget (answer before budget)
   pub words-unchanged : after ≡ before
+
+-- ---- figures compared
+
+-- whether two numbers are a figure: zero held with power 0, or digits from 100,000,000 to 999,999,999
+abbrev pub power-zero : ℤ → Bool
+power-zero (pos n) = eqb n 0
+power-zero (negsuc n) = false
+
+unfoldable pub figure-test : Figure → Bool
+figure-test f =
+    elim (eqb (f .digits) 0) [
+      | true ↦ power-zero (f .power)
+      | false ↦ elim (ltb (f .digits) 100000000) [ true ↦ false | false ↦ ltb (f .digits) 1000000000 ]
+    ]
+
+-- the test is right: it tells document 01's figures from what is none
+pub record Tested (f : Figure) : Type 0 where
+  pub held : figure-test f ≡ true → IsFigure 9 f
+  pub failed : figure-test f ≡ false → IsFigure 9 f → ⊥
+
+-- 1 where the first is at or below the second, 0 where it is above, 2 where one of them is no figure
+unfoldable pub compared : Figure → Figure → ℕ
+compared a b = elim (figure-test a) [ true ↦ elim (figure-test b) [ true ↦ elim (at-or-below a b) [ true ↦ 1 | false ↦ 0 ] | false ↦ 2 ] | false ↦ 2 ]
+
+-- What `bounds_at_or_below` promises, of the two figures and its answer.
+pub record Compared (a b : Figure) (answer : ℕ) : Type 0 where
+  pub answer-is : answer ≡ compared a b
+  pub first-tested : Tested a
+  pub second-tested : Tested b
+
+-- ---- the version
+
+-- the number of a version: three digits each for minor and patch
+abbrev pub version-number : ℕ → ℕ → ℕ → ℕ
+version-number major minor patch = major * 1000000 + minor * 1000 + patch
+
+-- this version
+abbrev pub version : ℕ
+version = version-number 1 1 0

@@ -2,15 +2,17 @@
 ghost use mathlib.Core.Path.{_≡_};
 ghost use mathlib.Core.List.{[], _∷_};
 ghost use lib.ListN.{take};
-ghost use Rattle.model.specs.Reading.{granted};
+ghost use Rattle.word.specs.Answer.{granted};
 ghost use Rattle.tree.specs.Report as definition;
 ghost use Rattle.bounds.specs.Answers.{report-of};
-ghost use Rattle.text.specs.Bytes.{Spelled};
-ghost use Rattle.embed.specs.Exports.{Assessed, Texted, numbers-of, powers-of};
+ghost use Rattle.text.specs.Bytes.{most-bytes, Spelled};
+ghost use Rattle.embed.specs.Exports.{Assessed, Texted, Compared, numbers-of, powers-of, figure-test, version};
+ghost use Rattle.figure.specs.Rounding.{figure};
 use bounds::Answer;
 use bounds::Report;
 use bounds::unreliability;
-use text::answers::answer_text;
+use figure::Figure;
+use text::answers::words_text;
 use text::bytes::words_of;
 
 fn put_powers(lower: i32, upper: i32, cut: i32, powers: &mut [i32; 3])
@@ -70,7 +72,7 @@ pub extern "C" fn bounds_assess(
 pub extern "C" fn bounds_text(words: &[u32], budget: u64, text: &mut [u8; 256]) -> usize
     ensures { λ r. ⌜ Texted (now (words .entry)) (now (words .exit)) budget (now (text .exit)) r ⌝ }
 {
-    let t = answer_text(unreliability(words, budget));
+    let t = words_text(words, budget);
     let bytes = t.bytes;
     *text = bytes;
     t.len
@@ -80,8 +82,56 @@ pub extern "C" fn bounds_text(words: &[u32], budget: u64, text: &mut [u8; 256]) 
 // more words than a model may have. The lent bytes are unchanged; what `words` holds behind its words is free.
 #[no_mangle]
 pub extern "C" fn bounds_words(bytes: &[u8], words: &mut [u32; 16006]) -> usize
-    ensures { λ r. ⌜ Spelled (take 64024 (now (bytes .entry))) (now (words .exit)) r ⌝ }
+    ensures { λ r. ⌜ Spelled (take most-bytes (now (bytes .entry))) (now (words .exit)) r ⌝ }
     ensures { λ _. ⌜ now (bytes .exit) ≡ now (bytes .entry) ⌝ }
 {
     words_of(bytes, words)
+}
+
+// What `bounds_at_or_below` answers where one of the two is no figure.
+const NO_FIGURE: u64 = 2;
+
+fn is_figure(digits: u64, power: i32) -> bool
+    ensures { λ r. ⌜ r ≡ figure-test (figure digits power) ⌝ }
+{
+    if digits == 0 {
+        return power == 0;
+    }
+    if digits < 100_000_000 {
+        return false;
+    }
+    digits < 1_000_000_000
+}
+
+// How a figure, given by its digits and its power of ten, compares with a limit: 1 if it is at or below the limit, 0 if it is above, 2 if one of
+// the two is no figure. It takes any numbers.
+#[no_mangle]
+pub extern "C" fn bounds_at_or_below(
+    digits: u64,
+    power: i32,
+    limit_digits: u64,
+    limit_power: i32,
+) -> u64
+    ensures { λ r. ⌜ Compared (figure digits power) (figure «limit_digits» «limit_power») r ⌝ }
+{
+    if !is_figure(digits, power) {
+        return NO_FIGURE;
+    }
+    if !is_figure(limit_digits, limit_power) {
+        return NO_FIGURE;
+    }
+    let a = Figure { digits, power };
+    let limit = Figure {
+        digits: limit_digits,
+        power: limit_power,
+    };
+    if a.at_or_below(limit) { 1 } else { 0 }
+}
+
+// The version of the library: major × 1,000,000 + minor × 1,000 + patch.
+#[no_mangle]
+pub extern "C" fn bounds_version() -> u64
+    ensures { λ r. ⌜ r ≡ version ⌝ }
+{
+    1_001_000
 }

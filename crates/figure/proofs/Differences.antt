@@ -18,7 +18,7 @@ use Rattle.fraction.proofs.Signed.{signed}
 use Rattle.figure.specs.declared.Figure.{Figure}
 use Rattle.figure.specs.Rounding.{figure, none, value, IsFigure}
 use Rattle.figure.specs.Operands.{Operand, Sized}
-use Rattle.figure.specs.Steps.{rounded, Ordered, part, directed, just-below}
+use Rattle.figure.specs.Internal.Steps.{rounded, Ordered, part, directed, just-below}
 use Rattle.figure.proofs.Scale.{pow-pos, multiple-≼, ten-shift}
 use Rattle.figure.proofs.Value.{val, value-is}
 use Rattle.figure.proofs.Operations.{up-minus, down-minus}

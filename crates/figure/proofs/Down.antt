@@ -9,13 +9,13 @@ use native.Mathlib.Nat.{le-trans, lt-irrefl, not-le-of-lt, le-of-lt, lt-of-not-l
 use native.Mathlib.Omega.{arith, patom, plit}
 use lib.Dec.{T, ltb, ltb→lt, nltb→le}
 use lib.IntN.{ℤ, sucℤ}
-use Rattle.fraction.specs.Fraction.{Fraction}
 use Rattle.fraction.proofs.Ratio.{Ratio, _≼_, ofℕ, _⊕_, _⊗_, ≼-refl, ≼-trans, ≈-le, ⊗-mono, ⊗-comm, ofℕ-≼, ofℕ-⊕, ⊗-zero, zero-≼, zero-or-pos, not-≼, zero-below}
 use Rattle.fraction.proofs.Certificate.{_+'_, _*'_, prove, hyp}
 use Rattle.fraction.proofs.PowersOfTen.{ten-to}
 use Rattle.fraction.proofs.Signed.{signed}
 use Rattle.figure.specs.declared.Figure.{Figure}
 use Rattle.figure.specs.Rounding.{figure, none, IsFigure, is-zero, IsDown, floor, down-from, down}
+use Rattle.figure.specs.Faithful.{DownUnique}
 use Rattle.figure.proofs.Scale.{pow-pos, ten-step, multiple-≼, Powers, same-power, lower, higher, powers, higher-≼}
 use Rattle.figure.proofs.Counts.{floor-reach, floor-greatest}
 use Rattle.figure.proofs.Digits.{start, start-low, start-not-high}
@@ -96,7 +96,7 @@ zero-is-down w x z = record {
 pub natural-down : (w : ℕ) (x : Ratio) → IsDown (suc w) (signed x) (down (suc w) (signed x))
 natural-down w x = ⊎-elim (λ z. rw (down-zero (suc w) x z) (zero-is-down w x z)) (λ h. close-is-down w x _ (down-close w x h)) (zero-or-pos x)
 
-pub down-unique : (w : ℕ) (x : Fraction) (f g : Figure) → IsDown (suc w) x f → IsDown (suc w) x g → f ≡ g
+pub down-unique : DownUnique
 down-unique w x f g a b = figure-same w f g (a .is-figure) (b .is-figure) (val-≼ f g (b .greatest f (a .is-figure) (a .not-above)))
     (val-≼ g f (a .greatest g (b .is-figure) (b .not-above)))
 

@@ -5,14 +5,14 @@ use native.Mathlib.Nat.{zero-lt-suc, pow-succ', mul-le-mul-right, mul-lt-mul-of-
 use native.Mathlib.Omega.{arith}
 use lib.Pow.{pow-add}
 use lib.IntN.{ℤ, pos, negℤ, _+ℤ_, _-ℤ_}
-use Rattle.fraction.specs.Fraction.{_≈ᶠ_, whole, ratio, ten, _*ᶠ_}
 use Rattle.fraction.proofs.Ratio.{Ratio, _≼_, _≈_, ofℕ, _⊗_, ≼-refl, ≼-trans, ≼-antisym, ≈-refl, ≈-sym, ≈-trans, ≈-le, ≈-ge, ⊗-cong, ⊗-assoc, ⊗-zero, ofℕ-pos}
 use Rattle.fraction.proofs.PowersOfTen.{ten-to, ten-+}
 use Rattle.fraction.proofs.Inverse.{_over_, over-≈, inv-unique}
 use Rattle.fraction.proofs.Signed.{signed, signed-≈, signed-⊗, signed-whole, signed-ten, signed-ratio}
 use Rattle.figure.specs.declared.Figure.{Figure}
-use Rattle.figure.specs.Rounding.{figure, none, value, IsFigure, is-zero, digit-count, up, down}
+use Rattle.figure.specs.Rounding.{figure, none, IsFigure, is-zero, digit-count, up, down}
 use Rattle.figure.specs.Operations.{times-ten, of-whole, of-quantity}
+use Rattle.figure.specs.Faithful.{PowerOfTenExact, WholeExact, QuantityExact}
 use Rattle.figure.proofs.Scale.{pow-pos, exponent-<, ten-units, ten-shift, power-inverse}
 use Rattle.figure.proofs.Digits.{digits-above, digits-below}
 use Rattle.figure.proofs.Value.{val, value-is, val-≼, below-val, above-val, below-value, above-value, figure-of}
@@ -91,7 +91,7 @@ pub natural-of-whole : (n : ℕ) → n < 10 ^ 9 → val (of-whole n) ≈ ofℕ n
 unfolding of-whole
 natural-of-whole n h = rw (← signed-whole n) (exact-down (whole-exact 8 n h))
 
-pub of-whole-exact : (n : ℕ) → n < 10 ^ 9 → value (of-whole n) ≈ᶠ whole n
+pub of-whole-exact : WholeExact
 of-whole-exact n h = rw (value-is (of-whole n), ← signed-whole n) (signed-≈ (natural-of-whole n h))
 
 -- a quantity
@@ -100,7 +100,7 @@ unfolding of-quantity
 natural-of-quantity c p h =
     rw (← signed-ratio c (10 ^ p)) (exact-up (exact-≈ (≈-sym (over-ten c p)) (short-exact 8 c (negℤ (pos p)) h)))
 
-pub of-quantity-exact : (c p : ℕ) → c < 10 ^ 9 → value (of-quantity c p) ≈ᶠ ratio (pos c) (10 ^ p)
+pub of-quantity-exact : QuantityExact
 of-quantity-exact c p h = rw (value-is (of-quantity c p), ← signed-ratio c (10 ^ p)) (signed-≈ (natural-of-quantity c p h))
 
 -- times a power of ten
@@ -112,5 +112,5 @@ natural-times-ten a p = go (a .digits) refl
     go zero z = rw z (≈-trans (⊗-zero _) (≈-sym (≈-trans (⊗-assoc _ _ _) (⊗-zero _))))
     go (suc d) z = rw z (≈-trans (⊗-cong (≈-refl _) (ten-+ (a .power) p)) (≈-sym (⊗-assoc _ _ _)))
 
-pub times-ten-exact : (a : Figure) (p : ℤ) → value (times-ten a p) ≈ᶠ value a *ᶠ ten p
+pub times-ten-exact : PowerOfTenExact
 times-ten-exact a p = rw (value-is (times-ten a p), value-is a, ← signed-ten p, ← signed-⊗ (val a) (ten-to p)) (signed-≈ (natural-times-ten a p))

@@ -14,7 +14,7 @@ use Rattle.figure.specs.declared.Figure.{Figure}
 use Rattle.figure.specs.Rounding.{figure, none, value, IsFigure, is-zero, is-whole}
 use Rattle.figure.specs.Operands.{Operand, Sized}
 use Rattle.figure.specs.Operations.{times-ten}
-use Rattle.figure.specs.Steps.{rounded}
+use Rattle.figure.specs.Internal.Steps.{rounded}
 use Rattle.figure.proofs.Scale.{pow-pos}
 use Rattle.figure.proofs.Value.{val, Shape, empty, full, shape}
 use Rattle.figure.proofs.Rounding.{up-of-figure, down-of-figure, up-respects, down-respects}

@@ -8,6 +8,7 @@ pub mod Rounding
 pub mod Operations
 pub mod Positive
 pub mod Exact
+pub mod Faithful
 pub mod Reach
 pub mod Stored
 pub mod Parts

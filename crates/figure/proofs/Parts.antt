@@ -16,7 +16,7 @@ use borrow.Author.Tests.{eq-eqb, ne-eqb, lt-ltb, le-ltb}
 use Rattle.figure.specs.declared.Figure.{Figure}
 use Rattle.figure.specs.declared.division.Part.{Part}
 use Rattle.figure.specs.Rounding.{figure}
-use Rattle.figure.specs.Steps.{Width, part, shorter, carry, directed, trimmed}
+use Rattle.figure.specs.Internal.Steps.{Width, part, shorter, carry, directed, trimmed}
 use Rattle.figure.proofs.Stored.{stored, kept, mag-sum, read-sum}
 
 abbrev pub parts : ℕ → Bool → Part

@@ -20,7 +20,7 @@ use Rattle.figure.specs.declared.division.Part.{Part}
 use Rattle.figure.specs.declared.product.Scaled.{Scaled}
 use Rattle.figure.specs.Rounding.{none, value}
 use Rattle.figure.specs.Operands.{Operand}
-use Rattle.figure.specs.Steps.{rounded, part, directed, scaling}
+use Rattle.figure.specs.Internal.Steps.{rounded, part, directed, scaling}
 use Rattle.figure.proofs.Scale.{pow-pos}
 use Rattle.figure.proofs.Value.{val}
 use Rattle.figure.proofs.Operations.{value-times}

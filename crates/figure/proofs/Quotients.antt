@@ -19,7 +19,7 @@ use Rattle.figure.specs.declared.Figure.{Figure}
 use Rattle.figure.specs.declared.division.Part.{Part}
 use Rattle.figure.specs.Rounding.{value}
 use Rattle.figure.specs.Operands.{Operand}
-use Rattle.figure.specs.Steps.{rounded, part, directed, NineDigits, Padding}
+use Rattle.figure.specs.Internal.Steps.{rounded, part, directed, NineDigits, Padding}
 use Rattle.figure.proofs.Scale.{multiple-pos}
 use Rattle.figure.proofs.Value.{val}
 use Rattle.figure.proofs.Operations.{value-divided}

@@ -119,12 +119,12 @@ end-exact : (w h n : ℕ) → n < 10 ^ suc w → Exact w (ofℕ (n * 10 ^ h))
 end-exact w h n p = exact-≈ (≈-trans (⊗-cong (≈-refl _) (ten-nat h)) (≈-sym (ofℕ-⊗ n (10 ^ h)))) (short-exact w n (pos h) p)
 
 -- 10^-l, below x where 10^l times x is at least 1
-low-end-below : {x : Ratio} (l : ℕ) → ofℕ 1 ≼ ofℕ (10 ^ l) ⊗ x → ofℕ 1 ⊗ ten-to (negℤ (pos l)) ≼ x
+pub low-end-below : {x : Ratio} (l : ℕ) → ofℕ 1 ≼ ofℕ (10 ^ l) ⊗ x → ofℕ 1 ⊗ ten-to (negℤ (pos l)) ≼ x
 low-end-below {x} l p = prove (ofℕ (10 ^ l) ∷ ten-to (negℤ (pos l)) ∷ x ∷ [])
     (hyp (patom 1) (plit 1) (patom 0 *' patom 2) ∷ hyp (patom 2) (patom 0 *' patom 1) (plit 1) ∷ []) (plit 1 *' patom 1) (patom 2) tt p
     (≈-le (power-inverse l))
 
-low-end-above : {x : Ratio} (l : ℕ) → ofℕ 1 ⊗ ten-to (negℤ (pos l)) ≼ x → ofℕ 1 ≼ ofℕ (10 ^ l) ⊗ x
+pub low-end-above : {x : Ratio} (l : ℕ) → ofℕ 1 ⊗ ten-to (negℤ (pos l)) ≼ x → ofℕ 1 ≼ ofℕ (10 ^ l) ⊗ x
 low-end-above {x} l p = prove (ofℕ (10 ^ l) ∷ ten-to (negℤ (pos l)) ∷ x ∷ [])
     (hyp (patom 0) (plit 1 *' patom 1) (patom 2) ∷ hyp (plit 1) (plit 1) (patom 0 *' patom 1) ∷ []) (plit 1) (patom 0 *' patom 2) tt p
     (≈-ge (power-inverse l))

@@ -15,7 +15,7 @@ use Rattle.fraction.proofs.PowersOfTen.{ten-to, ten-+, ten-nat}
 use Rattle.fraction.proofs.Signed.{signed}
 use Rattle.figure.specs.declared.Figure.{Figure}
 use Rattle.figure.specs.Rounding.{figure, up, down}
-use Rattle.figure.specs.Steps.{rounded, part, shorter, carry, directed, trimmed}
+use Rattle.figure.specs.Internal.Steps.{rounded, part, shorter, carry, directed, trimmed}
 use Rattle.figure.proofs.Scale.{multiple-≤, multiple-≼}
 use Rattle.figure.proofs.Value.{low-end}
 use Rattle.figure.proofs.Up as Up

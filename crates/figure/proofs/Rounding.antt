@@ -11,7 +11,8 @@ use Rattle.fraction.proofs.PowersOfTen.{ten-to}
 use Rattle.fraction.proofs.Signed.{signed, nonnegative, signed-nonnegative, nonnegative-≼, nonnegative-none, signed-⊕, signed-⊗, signed-⊖, signed-whole, signed-ten}
 use Rattle.fraction.proofs.Laws.{≈ᶠ-≤, ≈ᶠ-≥}
 use Rattle.figure.specs.declared.Figure.{Figure}
-use Rattle.figure.specs.Rounding.{none, value, IsFigure, IsUp, IsDown, up, down}
+use Rattle.figure.specs.Rounding.{value, IsFigure, up, down}
+use Rattle.figure.specs.Faithful.{UpIsUp, DownIsDown, UpNone, DownNone}
 use Rattle.figure.proofs.Scale.{pow-pos, power-inverse}
 use Rattle.figure.proofs.Value.{val, value-is, value-≼, val-≼, above-value, below-value, figure-same}
 use Rattle.figure.proofs.Up as Up
@@ -41,18 +42,18 @@ down-natural K x = go (x .num)
     go (pos n) = refl
     go (negsuc n) = refl
 
-pub up-none : (K : ℕ) (x : Fraction) → x ≤ᶠ whole 0 → up K x ≡ none
+pub up-none : UpNone
 up-none K x h = up-natural K x ∙ Up.up-zero K (nonnegative x) (nonnegative-none x h)
 
-pub down-none : (K : ℕ) (x : Fraction) → x ≤ᶠ whole 0 → down K x ≡ none
+pub down-none : DownNone
 down-none K x h = down-natural K x ∙ Down.down-zero K (nonnegative x) (nonnegative-none x h)
 
 -- ---- "Up(x) is the least figure not below x, down(x) the greatest not above", and each is the only one
 
-pub up-is-up : (w : ℕ) (x : Fraction) → whole 0 ≤ᶠ x → IsUp (suc w) x (up (suc w) x)
+pub up-is-up : UpIsUp
 up-is-up w x h = rw (signed-nonnegative h) at (Up.natural-up w (nonnegative x))
 
-pub down-is-down : (w : ℕ) (x : Fraction) → whole 0 ≤ᶠ x → IsDown (suc w) x (down (suc w) x)
+pub down-is-down : DownIsDown
 down-is-down w x h = rw (signed-nonnegative h) at (Down.natural-down w (nonnegative x))
 
 pub up-figure : (w : ℕ) (x : Fraction) → IsFigure (suc w) (up (suc w) x)

@@ -21,7 +21,7 @@ use Rattle.figure.specs.declared.Figure.{Figure}
 use Rattle.figure.specs.declared.division.Part.{Part}
 use Rattle.figure.specs.Rounding.{value, IsFigure}
 use Rattle.figure.specs.Operands.{Sized}
-use Rattle.figure.specs.Steps.{rounded, Width, Ordered, Alignable, part, trimmed, gap-of, aligned-sum}
+use Rattle.figure.specs.Internal.Steps.{rounded, Width, Ordered, Alignable, part, trimmed, gap-of, aligned-sum}
 use Rattle.figure.proofs.Scale.{pow-pos}
 use Rattle.figure.proofs.Value.{val, value-is}
 use Rattle.figure.proofs.Operations.{value-plus}

@@ -15,7 +15,7 @@ use Rattle.figure.specs.declared.Figure.{Figure}
 use Rattle.figure.specs.declared.division.Part.{Part}
 use Rattle.figure.specs.Rounding.{figure, none, value, IsFigure, is-zero, is-whole}
 use Rattle.figure.specs.Operands.{Operand, Sized}
-use Rattle.figure.specs.Steps.{rounded, Width, Ordered, part, shorter, directed, trimmed, gap-of, aligned-sum, widening}
+use Rattle.figure.specs.Internal.Steps.{rounded, Width, Ordered, part, shorter, directed, trimmed, gap-of, aligned-sum, widening}
 use Rattle.figure.proofs.Scale.{pow-pos, ten-shift}
 use Rattle.figure.proofs.Value.{val, value-is}
 use Rattle.figure.proofs.Operations.{value-plus}

@@ -10,13 +10,13 @@ use native.Mathlib.Omega.{arith, by-contra, patom, plit}
 use lib.Dec.{T, T-not, ltb, ltb→lt, nltb→le, eqb, eqb→eq, eqb-refl}
 use lib.Arith.{lt-of-le-ne}
 use lib.IntN.{ℤ, pos, sucℤ, predℤ, _+ℤ_, +ℤ-idr, +ℤ-sucℤ, sucℤ-+ℤ, pred-suc, +ℤ-one}
-use Rattle.fraction.specs.Fraction.{Fraction}
 use Rattle.fraction.proofs.Ratio.{Ratio, _≼_, ofℕ, _⊗_, ≼-refl, ≼-trans, ≈-le, ≈-ge, ⊗-mono, ofℕ-≼, ofℕ-⊕, ⊗-zero, zero-≼, zero-or-pos, pos-≼, not-≼, zero-below}
 use Rattle.fraction.proofs.Certificate.{_+'_, _*'_, prove, hyp}
 use Rattle.fraction.proofs.PowersOfTen.{ten-to}
 use Rattle.fraction.proofs.Signed.{signed}
 use Rattle.figure.specs.declared.Figure.{Figure}
 use Rattle.figure.specs.Rounding.{figure, none, IsFigure, is-zero, IsUp, ceiling, up-from, up}
+use Rattle.figure.specs.Faithful.{UpUnique}
 use Rattle.figure.proofs.Scale.{pow-pos, not-zero, multiple-pos, ten-step, ten-step-down}
 use Rattle.figure.proofs.Scale.{multiple-≤, multiple-≼, Powers, same-power, lower, higher, powers, lower-≼, higher-≼}
 use Rattle.figure.proofs.Counts.{ceiling-reach, ceiling-least}
@@ -112,7 +112,7 @@ zero-is-up w x z = record {
 pub natural-up : (w : ℕ) (x : Ratio) → IsUp (suc w) (signed x) (up (suc w) (signed x))
 natural-up w x = ⊎-elim (λ z. rw (up-zero (suc w) x z) (zero-is-up w x z)) (λ h. tight-is-up w x _ (up-tight w x h) h) (zero-or-pos x)
 
-pub up-unique : (w : ℕ) (x : Fraction) (f g : Figure) → IsUp (suc w) x f → IsUp (suc w) x g → f ≡ g
+pub up-unique : UpUnique
 up-unique w x f g a b = figure-same w f g (a .is-figure) (b .is-figure) (val-≼ f g (a .least g (b .is-figure) (b .not-below)))
     (val-≼ g f (b .least f (a .is-figure) (a .not-below)))
 

@@ -16,7 +16,7 @@ use Rattle.fraction.proofs.Signed.{signed-whole, signed-ratio}
 use Rattle.figure.specs.declared.Figure.{Figure}
 use Rattle.figure.specs.declared.division.Part.{Part}
 use Rattle.figure.specs.Rounding.{figure, none, value, is-whole, up, down}
-use Rattle.figure.specs.Steps.{rounded, part, directed, Count}
+use Rattle.figure.specs.Internal.Steps.{rounded, part, directed, Count}
 use Rattle.figure.proofs.Scale.{pow-pos, ten-units, ten-shift}
 use Rattle.figure.proofs.Value.{value-is}
 use Rattle.figure.proofs.Exact.{over-ten}

@@ -1,4 +1,5 @@
 pub mod Rounding
 pub mod Operations
 pub mod Operands
-pub mod Steps
+pub mod Faithful
+pub mod Internal

@@ -36,8 +36,8 @@ pub record IsDown (K : ℕ) (x : Fraction) (f : Figure) : Type 0 where
   pub not-above : value f ≤ᶠ x
   pub greatest : (g : Figure) → IsFigure K g → value g ≤ᶠ x → value g ≤ᶠ value f
 
--- ---- the two, computed: that `up` and `down` below are these, and the only ones, for x at or above 0 is `up-is-up`, `down-is-down`, `up-unique`
--- and `down-unique` (crates/figure/proofs/Rounding.antt)
+-- ---- the two, computed: that `up` and `down` below are these, and the only ones, for x at or above 0 is `UpIsUp`, `DownIsDown`, `UpUnique` and
+-- `DownUnique` (crates/figure/specs/Faithful.antt)
 
 -- the number of decimal digits: the least j from `j` on with n below 10^j; `fuel` bounds the search
 unfoldable pub digits-from : ℕ → ℕ → ℕ → ℕ

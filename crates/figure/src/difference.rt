@@ -4,7 +4,7 @@ ghost use Prim.Native.Nat.{_<_};
 ghost use Rattle.fraction.specs.Fraction.{_-ᶠ_};
 ghost use Rattle.figure.specs.Rounding.{value};
 ghost use Rattle.figure.specs.Operands.{Sized, Operand};
-ghost use Rattle.figure.specs.Steps.{rounded, Ordered, just-below};
+ghost use Rattle.figure.specs.Internal.Steps.{rounded, Ordered, just-below};
 use crate::Figure;
 use crate::division;
 use crate::division::Part;

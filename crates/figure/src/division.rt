@@ -2,7 +2,7 @@
 ghost use mathlib.Core.Path.{_≡_};
 ghost use Prim.Native.Nat.{_*_, _^_, _≤_, _<_};
 ghost use lib.Signed.{mag};
-ghost use Rattle.figure.specs.Steps.{Width, part, shorter, carry, directed, trimmed};
+ghost use Rattle.figure.specs.Internal.Steps.{Width, part, shorter, carry, directed, trimmed};
 use crate::Figure;
 use crate::powers;
 

@@ -3,7 +3,7 @@ ghost use mathlib.Core.Path.{_≡_};
 ghost use Rattle.fraction.specs.Fraction.{_*ᶠ_};
 ghost use Rattle.figure.specs.Rounding.{value};
 ghost use Rattle.figure.specs.Operands.{Operand};
-ghost use Rattle.figure.specs.Steps.{rounded, scaling};
+ghost use Rattle.figure.specs.Internal.Steps.{rounded, scaling};
 use crate::Figure;
 use crate::division;
 use crate::division::Part;

@@ -4,7 +4,7 @@ ghost use Prim.Native.Nat.{_^_, _<_};
 ghost use Rattle.fraction.specs.Fraction.{_+ᶠ_};
 ghost use Rattle.figure.specs.Rounding.{value};
 ghost use Rattle.figure.specs.Operands.{Sized};
-ghost use Rattle.figure.specs.Steps.{rounded, Width, Ordered, Alignable, part, aligned-sum};
+ghost use Rattle.figure.specs.Internal.Steps.{rounded, Width, Ordered, Alignable, part, aligned-sum};
 use crate::Figure;
 use crate::division;
 use crate::division::Part;

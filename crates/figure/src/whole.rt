@@ -3,7 +3,7 @@ ghost use mathlib.Core.Path.{_≡_};
 ghost use Prim.Native.Nat.{_^_, _≤_, _<_};
 ghost use lib.Signed.{mag};
 ghost use Rattle.figure.specs.Rounding.{figure, value};
-ghost use Rattle.figure.specs.Steps.{rounded, Count};
+ghost use Rattle.figure.specs.Internal.Steps.{rounded, Count};
 use crate::Figure;
 use crate::division;
 use crate::powers;

@@ -9,16 +9,18 @@ use native.Mathlib.Decide.{ℕ-discrete}
 use lib.ListN.{length, length-append}
 use lib.Dec.{ltb, leb}
 use borrow.Author.Tests.{ltb-false, leb-false, eqb-false, eq-eqb}
-use Rattle.model.specs.declared.Quantity.{Quantity}
-use Rattle.model.specs.Model.{Manner, Transition, Model, is-fast, any, exits-in, exits}
-use Rattle.model.specs.Words.{kind, states-field, start-field, steps-field, entries-field, from-field, to-field, scale-field, coefficient-field, quantity}
-use Rattle.model.specs.Faults.{Fault, outside, head-faults, quantity-faults, caps-faults, same-transition, transition-faults}
+use Rattle.word.specs.declared.Quantity.{Quantity}
+use Rattle.word.specs.Model.{Manner, Transition, Model, is-fast, any, exits-in, exits}
+use Rattle.word.specs.Words.{kind, states-field, start-field, step-limit-field, entry-limit-field, from-field, to-field, scale-field}
+use Rattle.word.specs.Words.{coefficient-field, quantity}
+use Rattle.word.specs.Faults.{Fault, outside, head-faults, quantity-faults, caps-faults, same-transition, transition-faults}
+use Rattle.word.specs.Internal.Lists.{Each}
 use Rattle.model.specs.Reading.{empty-model, with-transition}
-use Rattle.model.proofs.Valid.{Each, InRange, ValidManner, ValidTransition, SameTransition, Distinct}
-use Rattle.model.proofs.Members.{neither, each-monotone, each-append, each-one, any-none}
-use Rattle.model.proofs.Exits.{exits-more, exits-same, exits-fewer}
-use Rattle.model.proofs.Refusals.{inside}
-use Rattle.model.proofs.SameWord.{same-test-self}
+use Rattle.model.specs.Internal.Valid.{InRange, ValidManner, ValidTransition, SameTransition, Distinct}
+use Rattle.word.proofs.Members.{neither, each-monotone, each-append, each-one, any-none}
+use Rattle.word.proofs.Exits.{exits-more, exits-same, exits-fewer}
+use Rattle.word.proofs.Tests.{inside}
+use Rattle.word.proofs.SameWord.{same-test-self}
 
 -- ---- what holds of a model whose table grows
 
@@ -34,10 +36,10 @@ pub record Growing (m : Model) : Type 0 where
   pub head : Head (m .states) (m .net .start)
   pub time : InRange 1 20 (m .net .time)
   pub prune : InRange 0 20 (m .limits .prune)
-  pub steps-low : 1 ≤ m .limits .steps
-  pub steps-high : m .limits .steps ≤ 24
-  pub entries-low : 1 ≤ m .limits .entries
-  pub entries-high : m .limits .entries ≤ 24
+  pub steps-low : 1 ≤ m .limits .step-limit
+  pub steps-high : m .limits .step-limit ≤ 24
+  pub entries-low : 1 ≤ m .limits .entry-limit
+  pub entries-high : m .limits .entry-limit ≤ 24
   pub table : Each (ValidTransition (m .states)) (m .net .table)
   pub few : length (m .net .table) ≤ 4000
   pub few-exits : (s : ℕ) → length (exits (m .net) s) ≤ 16
@@ -127,11 +129,11 @@ head-in w h =
     record { states-low = states-in .0; states-high = states-in .1; start-low = start-in .0; start-high = start-in .1 }
 
 pub empty-grows : (w n s : ℕ) (t p : Quantity) → NoFault (caps-faults w) → Head n s → InRange 1 20 t → InRange 0 20 p
-    → Growing (empty-model n s t p (steps-field w) (entries-field w))
+    → Growing (empty-model n s t p (step-limit-field w) (entry-limit-field w))
 unfolding Each Distinct
 empty-grows w n s t p h head time prune =
-    let steps-in = inside 1 24 (steps-field w) (h .1 .1 .0) in
-    let entries-in = inside 1 24 (entries-field w) (h .1 .1 .1 .0) in
+    let steps-in = inside 1 24 (step-limit-field w) (h .1 .1 .0) in
+    let entries-in = inside 1 24 (entry-limit-field w) (h .1 .1 .1 .0) in
     record {
       head = head;
       time = time;

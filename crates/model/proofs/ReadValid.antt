@@ -5,16 +5,19 @@ use mathlib.Core.Bool.{true, false}
 use mathlib.Core.List.{List, [], _∷_}
 use native.Mathlib.Omega.{arith}
 use native.Mathlib.Decide.{ℕ-discrete}
-use Rattle.model.specs.Model.{slow, fast, Net, Model, exits, has-fast, probability-sum}
-use Rattle.model.specs.Words.{kind, quantity}
-use Rattle.model.specs.Faults.{Fault, quantity-faults}
-use Rattle.model.specs.Reading.{granted, Reader, at-head, at-time, at-prune, at-caps, at-transition, at-rate, at-mean, at-deviation, at-probability}
-use Rattle.model.specs.Reading.{after-end, Next, wrong, right, unless, next-transition, next, at-words-end, read-from, uneven, lowest-uneven, read}
-use Rattle.model.proofs.Valid.{InRange, ValidManner, ValidTransition, Valid}
-use Rattle.model.proofs.Members.{each-member}
-use Rattle.model.proofs.Exits.{exits-each, exits-leave, has-fast-member}
+use Rattle.word.specs.Model.{slow, fast, Net, Model, exits, has-fast, probability-sum}
+use Rattle.word.specs.Words.{kind, quantity}
+use Rattle.word.specs.Faults.{Fault, quantity-faults}
+use Rattle.word.specs.Answer.{granted}
+use Rattle.model.specs.Reading.{Reader, at-head, at-time, at-prune, at-caps, at-transition, at-rate, at-mean, at-deviation, at-probability}
+use Rattle.model.specs.Reading.{after-end, Next, wrong, right, unless, next-transition, next, at-words-end, read-from, uneven, lowest-uneven}
+use Rattle.model.specs.Reading.{read}
+use Rattle.model.specs.Internal.Valid.{InRange, ValidManner, ValidTransition, Valid}
+use Rattle.word.proofs.Members.{each-member}
+use Rattle.word.proofs.Exits.{exits-each, exits-leave, has-fast-member}
+use Rattle.word.proofs.Tests.{differs-false}
 use Rattle.model.proofs.Growing.{Head, Growing, Admitted, NoFault, grow, quantity-range, head-in, empty-grows, admit}
-use Rattle.model.proofs.Refusals.{differs-false, refused-not-granted, wrong-not-right, unless-right, next-slow, next-fast}
+use Rattle.model.proofs.Refusals.{refused-not-granted, wrong-not-right, unless-right, next-slow, next-fast}
 use Rattle.model.proofs.Refusals.{next-end, next-other, read-wrong, read-right, lowest-none, read-granted}
 
 -- ---- what holds at each place

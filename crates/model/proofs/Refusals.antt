@@ -1,38 +1,24 @@
 -- What reading answers, one refusal after the other: the words' number, the budget, the words from the left, the model. Assumes nothing.
 use Prim.Native.Nat.{ℕ, zero, suc, _+_, _≤_, _<_}
 use mathlib.Core.Path.{_≡_, refl, sym, ap, _∙_}
-use mathlib.Core.Bool.{Bool, true, false, or-true}
+use mathlib.Core.Bool.{Bool, true, false}
 use mathlib.Core.List.{List, [], _∷_}
 use native.Mathlib.Omega.{arith}
 use native.Mathlib.Decide.{decLe}
 use lib.Arith.{le-zero}
 use lib.ListN.{length}
-use lib.Dec.{ltb, eqb}
-use borrow.Author.Tests.{lt-ltb, le-ltb, ltb-false, eqb-true, ne-eqb, not-false}
-use Rattle.model.specs.Model.{Net, Model, is-empty, exits}
-use Rattle.model.specs.Words.{kind, from-field, to-field}
-use Rattle.model.specs.Faults.{Fault, outside, differs, transition-faults, end-faults}
-use Rattle.model.specs.Reading.{Answer, refused, granted, then, Reader, at-head, at-rate, at-mean, after-end, wrong, right, unless}
-use Rattle.model.specs.Reading.{next-transition, next, read-from, uneven, lowest-uneven, Finding, model-findings, caller-findings, first-of, read}
-use Rattle.model.proofs.Valid.{Each}
-use Rattle.model.proofs.Members.{neither}
-
--- ---- tests
-
-pub inside : (least most n : ℕ) → outside least most n ≡ false → (least ≤ n) × (n ≤ most)
-inside least most n e = let (low, high) = neither (ltb n least) (ltb most n) e in (ltb-false n least low, ltb-false most n high)
-
-pub inside-test : (least most n : ℕ) → least ≤ n → n ≤ most → outside least most n ≡ false
-inside-test least most n low high = rw (le-ltb n least low, le-ltb most n high)
-
-pub below-test : (least most n : ℕ) → n < least → outside least most n ≡ true
-below-test least most n low = rw (lt-ltb n least low)
-
-pub above-test : (least most n : ℕ) → most < n → outside least most n ≡ true
-above-test least most n high = rw (lt-ltb most n high, or-true)
-
-pub differs-false : (a b : ℕ) → differs a b ≡ false → a ≡ b
-differs-false a b e = eqb-true a b (not-false (eqb a b) e)
+use lib.Dec.{ltb}
+use borrow.Author.Tests.{lt-ltb, le-ltb, ltb-false, ne-eqb}
+use Rattle.word.specs.Model.{Net, Model, is-empty, exits}
+use Rattle.word.specs.Words.{kind, from-field, to-field}
+use Rattle.word.specs.Faults.{Fault, outside, transition-faults, end-faults}
+use Rattle.word.specs.Answer.{Answer, refused, granted, then}
+use Rattle.word.specs.Internal.Lists.{Each}
+use Rattle.model.specs.Reasons.{Called}
+use Rattle.model.specs.Reading.{Reader, at-head, at-rate, at-mean, after-end, wrong, right, unless}
+use Rattle.model.specs.Reading.{next-transition, next, read-from, uneven, lowest-uneven, Finding, model-findings, caller-findings, first-of}
+use Rattle.model.specs.Reading.{read}
+use Rattle.word.proofs.Tests.{inside, inside-test}
 
 -- ---- a refusal is no model
 
@@ -144,12 +130,6 @@ module _ (net : Net) where
       go false e (no here) below = let q : k ≡ s = omega arith in rw q e
 
 -- ---- the answer, by what was found first
-
--- the caller's two tests are passed
-pub record Called (ws : List ℕ) (budget : ℕ) : Type 0 where
-  pub words-few : length ws ≤ 16005
-  pub budget-low : 1 ≤ budget
-  pub budget-high : budget ≤ 1000000
 
 -- what is read then
 abbrev words-answer : List ℕ → Answer Model

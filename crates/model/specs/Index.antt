@@ -1,4 +1,4 @@
--- The index of exits that reading fills into lent arrays, and what its entries mean. The walk and its tables find a state's exits by it.
+-- The index of exits that reading fills into a lent array, and what its entries mean. The walk and its tables find a state's exits by it.
 -- Assumes nothing: these are definitions.
 use Prim.Native.Nat.{ℕ, suc, _+_, _*_, _≤_, _<_}
 use mathlib.Core.Path.{_≡_}
@@ -6,8 +6,8 @@ use mathlib.Core.Bool.{true, false}
 use mathlib.Core.List.{List, [], _∷_}
 use lib.ListN.{length, getD, drop}
 use lib.Dec.{eqb}
-use Rattle.model.specs.Model.{Manner, slow, fast, Transition, Net, Model, leaves, exits}
-use Rattle.model.specs.Words.{kind, from-field, to-field, quantity}
+use Rattle.word.specs.Model.{Manner, slow, fast, Transition, Net, Model, leaves, exits}
+use Rattle.word.specs.Words.{kind, from-field, to-field, quantity}
 
 -- The indexes, from i on, of a table's transitions that leave s, in table order. Transitions are counted from 0.
 unfoldable pub exit-indexes : List Transition → ℕ → ℕ → List ℕ
@@ -44,9 +44,22 @@ no-transition = record { from = 0; to = 0; manner = slow (quantity 0) }
 abbrev pub transition : Net → ℕ → Transition
 transition net j = getD (net .table) j no-transition
 
--- The index of a model's words. `counts` has each state's number of exits; `slots` has 16 places for each state, which hold the indexes of its
--- exits; `places` has the place of each transition's word.
-pub record Indexed (m : Model) (ws slots counts places : List ℕ) : Type 0 where
-  pub counts-are : (s : ℕ) → s ≤ 1000 → getD counts s 0 ≡ length (exits (m .net) s)
-  pub slots-are : (s i : ℕ) → s ≤ 1000 → i < length (exits (m .net) s) → getD slots (s * 16 + i) 0 ≡ getD (exit-indexes (m .net .table) 0 s) i 0
-  pub places-are : (j : ℕ) → j < length (m .net .table) → Stands ws (getD places j 0) (transition (m .net) j)
+-- ---- the array: 16 slots for each state from 0 to 1,000, a number of exits for each of them, a place for each transition
+
+-- what slot i of the state s holds: the index of its exit i
+abbrev pub slot : List ℕ → ℕ → ℕ → ℕ
+slot index s i = getD index (s * 16 + i) 0
+
+-- the number of exits of the state s
+abbrev pub exit-count : List ℕ → ℕ → ℕ
+exit-count index s = getD index (16016 + s) 0
+
+-- the place of the word of transition j
+abbrev pub place-of : List ℕ → ℕ → ℕ
+place-of index j = getD index (17017 + j) 0
+
+-- The index of a model's words. What a slot past a state's number of exits holds, and the place of a transition past the table's end, is free.
+pub record Indexed (m : Model) (ws index : List ℕ) : Type 0 where
+  pub counts-are : (s : ℕ) → s ≤ 1000 → exit-count index s ≡ length (exits (m .net) s)
+  pub slots-are : (s i : ℕ) → s ≤ 1000 → i < length (exits (m .net) s) → slot index s i ≡ getD (exit-indexes (m .net .table) 0 s) i 0
+  pub places-are : (j : ℕ) → j < length (m .net .table) → Stands ws (place-of index j) (transition (m .net) j)

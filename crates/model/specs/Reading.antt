@@ -5,20 +5,11 @@ use mathlib.Core.Bool.{Bool, true, false, _&&_}
 use mathlib.Core.List.{List, [], _∷_, _++_}
 use lib.ListN.{length}
 use lib.Dec.{ltb, eqb}
-use Rattle.model.specs.declared.Quantity.{Quantity}
-use Rattle.model.specs.Model.{Manner, slow, fast, Net, Model, is-empty, exits, has-fast, probability-sum}
-use Rattle.model.specs.Words.{kind, states-field, start-field, steps-field, entries-field, from-field, to-field, quantity}
-use Rattle.model.specs.Faults.{Fault, outside, differs, head-faults, quantity-faults, caps-faults, transition-faults, end-faults}
-
--- An answer: a refusal with its number and place, or what was asked for.
-pub data Answer (A : Type 0) : Type 0 where
-  refused : ℕ → ℕ → Answer A
-  granted : A → Answer A
-
--- the answer of a second step, where the first was not refused
-unfoldable pub then : {A B : Type 0} → Answer A → (A → Answer B) → Answer B
-then (refused number place) f = refused number place
-then (granted a) f = f a
+use Rattle.word.specs.declared.Quantity.{Quantity}
+use Rattle.word.specs.Model.{Manner, slow, fast, Net, Model, is-empty, exits, has-fast, probability-sum}
+use Rattle.word.specs.Words.{kind, states-field, start-field, step-limit-field, entry-limit-field, from-field, to-field, quantity}
+use Rattle.word.specs.Answer.{Answer, refused, granted, then}
+use Rattle.word.specs.Faults.{Fault, outside, differs, head-faults, quantity-faults, caps-faults, transition-faults, end-faults}
 
 -- ---- one word after the other
 
@@ -35,8 +26,13 @@ pub data Reader : Type 0 where
   at-probability : Model → (from to : ℕ) → Quantity → Quantity → Reader
   after-end : Model → Reader
 
-abbrev pub empty-model : (states start : ℕ) → Quantity → Quantity → (steps entries : ℕ) → Model
-empty-model n s t p l v = record { states = n; net = record { start = s; time = t; table = [] }; limits = record { steps = l; entries = v; prune = p } }
+abbrev pub empty-model : (states start : ℕ) → Quantity → Quantity → (step-limit entry-limit : ℕ) → Model
+empty-model n s t p l v =
+    record {
+      states = n;
+      net = record { start = s; time = t; table = [] };
+      limits = record { step-limit = l; entry-limit = v; prune = p };
+    }
 
 -- the table with one more transition, behind the others
 abbrev pub with-transition : Model → ℕ → ℕ → Manner → Model
@@ -73,7 +69,7 @@ unfoldable pub next : Reader → ℕ → Next
 next at-head w = unless (head-faults w) (at-time (states-field w) (start-field w))
 next (at-time n s) w = unless (quantity-faults 2 20 1 w) (at-prune n s (quantity w))
 next (at-prune n s t) w = unless (quantity-faults 3 20 0 w) (at-caps n s t (quantity w))
-next (at-caps n s t p) w = unless (caps-faults w) (at-transition (empty-model n s t p (steps-field w) (entries-field w)))
+next (at-caps n s t p) w = unless (caps-faults w) (at-transition (empty-model n s t p (step-limit-field w) (entry-limit-field w)))
 next (at-transition m) w = next-transition m w
 next (at-rate m a b) w = unless (quantity-faults 6 20 1 w) (at-transition (with-transition m a b (slow (quantity w))))
 next (at-mean m a b) w = unless (quantity-faults 8 20 1 w) (at-deviation m a b (quantity w))

@@ -1,16 +1,18 @@
 // The sums of the probabilities of each state's fast exits, in whole numbers of 10^-12.
+use crate::index::Index;
+use crate::index::exit_count;
 use crate::index::slot_place;
-use crate::index::small;
-use crate::words::is_fast;
-use crate::words::quantity_at;
-use crate::words::word_at;
+use word::fields::is_fast;
+use word::fields::quantity_at;
+use word::fields::word_at;
 ghost use Prim.Native.Nat.{ℕ, _-_, _*_, _^_, _≤_};
 ghost use mathlib.Core.Path.{_≡_};
 ghost use lib.ListN.{getD};
-ghost use Rattle.model.specs.Model.{Net};
-ghost use Rattle.model.specs.Words.{scale-field, coefficient-field};
+ghost use Rattle.word.specs.Model.{Net};
+ghost use Rattle.word.specs.Words.{scale-field, coefficient-field};
+ghost use Rattle.model.specs.Index.{exit-count};
 ghost use Rattle.model.specs.Reading as reading;
-ghost use Rattle.model.specs.Parts.{slot-transitions, sums-uneven, Leads, Through};
+ghost use Rattle.model.specs.Internal.Parts.{slot-transitions, sums-uneven, Leads, Through};
 
 // 10^n
 fn ten_to(n: u32) -> u64
@@ -41,15 +43,15 @@ fn units(part: &[u32]) -> u64
 }
 
 // Do the first n slots of the state s lead to fast exits whose probabilities do not sum to 1?
-fn uneven(words: &[u32], slots: &[u16; 16016], places: &[u16; 4000], s: usize, n: usize) -> bool
-    requires { ⌜ Leads (now words) (now slots) (now places) s n ⌝ }
-    ensures { λ r. ⌜ r ≡ sums-uneven (slot-transitions (now (words .entry)) (now (slots .entry)) (now (places .entry)) s n) ⌝ }
+fn uneven(words: &[u32], index: &Index, s: usize, n: usize) -> bool
+    requires { ⌜ Leads (now words) (now index) s n ⌝ }
+    ensures { λ r. ⌜ r ≡ sums-uneven (slot-transitions (now (words .entry)) (now (index .entry)) s n) ⌝ }
 {
     let mut sum: u64 = 0;
     let mut any = false;
     let mut i = 0;
     while i < n {
-        let at = slot_place(slots, places, s, i);
+        let at = slot_place(index, s, i);
         if is_fast(word_at(&words[at..])) {
             any = true;
             let third = at + 3;
@@ -64,21 +66,13 @@ fn uneven(words: &[u32], slots: &[u16; 16016], places: &[u16; 4000], s: usize, n
 }
 
 // The lowest such state of 1 to `states`, by the exits that the index leads to, or 0.
-pub(crate) fn lowest_uneven(
-    words: &[u32],
-    states: usize,
-    slots: &[u16; 16016],
-    counts: &[u8; 1001],
-    places: &[u16; 4000],
-) -> usize
-    requires { ⌜ (states ≤ 1000) × ((s : ℕ) → s ≤ states → Leads (now words) (now slots) (now places) s (getD (now counts) s 0)) ⌝ }
-    ensures { λ r. ⌜ ((net : Net)
-        → Through (now (words .entry)) (now (slots .entry)) (now (counts .entry)) (now (places .entry)) states net
-        → r ≡ reading.lowest-uneven net states 1) ⌝ }
+pub(crate) fn lowest_uneven(words: &[u32], states: usize, index: &Index) -> usize
+    requires { ⌜ (states ≤ 1000) × ((s : ℕ) → s ≤ states → Leads (now words) (now index) s (exit-count (now index) s)) ⌝ }
+    ensures { λ r. ⌜ ((net : Net) → Through (now (words .entry)) (now (index .entry)) states net → r ≡ reading.lowest-uneven net states 1) ⌝ }
 {
     let mut s = 1;
     while s <= states {
-        if uneven(words, slots, places, s, small(counts[s])) {
+        if uneven(words, index, s, exit_count(index, s)) {
             return s;
         }
         s += 1;

@@ -1,6 +1,7 @@
 -- The definitions agree with document 01's examples: by computing them. Model A's report is computed in crates/tree/proofs/ModelA.antt. Assumes nothing.
 use mathlib.Core.Path.{refl, ap}
-use Rattle.model.specs.Reading.{then, at-words-end, read-from, first-of, read}
+use Rattle.word.specs.Answer.{then}
+use Rattle.model.specs.Reading.{at-words-end, read-from, first-of, read}
 use Rattle.tree.specs.Report.{answer}
 use Rattle.tree.proofs.ModelA.{answer-A}
 use Rattle.text.specs.Bytes.{words-of}

@@ -8,7 +8,7 @@ use lib.ListN.{length, length-append}
 use lib.Dec.{eqb, lit≤}
 use lib.IntN.{ℤ, pos, negsuc, _+ℤ_}
 use Rattle.figure.specs.declared.Figure.{Figure}
-use Rattle.model.specs.Reading.{Answer, refused, granted}
+use Rattle.word.specs.Answer.{Answer, refused, granted}
 use Rattle.tree.specs.Report.{Report}
 use Rattle.text.specs.Text.{ascii, decimal, signed-decimal, figure-text, line, figure-lines, count-lines, refusal-text, answer-text}
 use Rattle.text.proofs.Digits.{length-last, length-digits}

@@ -3,6 +3,7 @@ mod Digits
 mod Signed
 mod Figures
 mod Lengths
-pub mod Words
-pub mod Numerals
-pub mod Example
+mod Words
+mod Numerals
+mod Example
+mod Faithful

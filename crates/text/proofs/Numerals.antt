@@ -8,16 +8,11 @@ use native.Mathlib.Omega.{arith}
 use native.Mathlib.Decide.{decLt}
 use native.Mathlib.Numerals.{sub-one}
 use lib.Dec.{lit≤}
+use Rattle.figure.specs.Rounding.{is-zero, is-whole}
 use Rattle.text.specs.Text.{digits-within, decimal, last-digits}
-use Rattle.text.proofs.Digits.{digits-none, digits-one, digits-more}
-
--- one digit more on the right
-abbrev shifted : ℕ → ℕ → ℕ
-shifted a d = 10 * a + (d - 48)
-
--- what the digits are worth, read from the left
-unfoldable pub worth : List ℕ → ℕ
-worth ds = foldl shifted 0 ds
+use Rattle.text.specs.Faithful.{shifted, worth, DecimalWorth, FigureDigits}
+use Rattle.text.proofs.Digits.{digits-none, digits-one, digits-more, length-last}
+use Rattle.text.proofs.Figures.{eight-digits, some-text}
 
 foldl-snoc : (ds : List ℕ) (d a : ℕ) → foldl shifted a (ds ++ (d ∷ [])) ≡ shifted (foldl shifted a ds) d
 foldl-snoc [] d a = refl
@@ -30,7 +25,7 @@ worth-snoc ds n = foldl-snoc ds (48 + n % 10) 0 ∙ omega arith
 more : (most n : ℕ) → n < 10 ^ suc most → n / 10 < 10 ^ most
 more most n h = omega (arith, rw pow-succ' at h)
 
-pub digits-worth : (most n : ℕ) → n < 10 ^ most → worth (digits-within most n) ≡ n
+digits-worth : (most n : ℕ) → n < 10 ^ most → worth (digits-within most n) ≡ n
 unfolding worth
 digits-worth zero n h = ap worth (digits-none n) ∙ omega (arith, h)
 digits-worth (suc most) n h = go (decLt n 10) (digits-worth most (n / 10) (more most n h))
@@ -44,7 +39,7 @@ digits-worth (suc most) n h = go (decLt n 10) (digits-worth most (n / 10) (more 
         ∙ omega (arith, e)
 
 -- a number of 64 bits
-pub decimal-worth : (n : ℕ) → n < 2 ^ 64 → worth (decimal n) ≡ n
+pub decimal-worth : DecimalWorth
 decimal-worth n h = digits-worth 20 n (omega (arith, h))
 
 -- ---- a figure's nine digits
@@ -67,5 +62,17 @@ all-digits (suc k) most n h l u =
     (digits-more most n (omega (arith, h)) (omega arith)) .is
     ∙ ap (λ (ds : List ℕ). ds ++ ((48 + n % 10) ∷ [])) (all-digits k (most - 1) (n / 10) (omega (arith, h)) (omega arith) (more (suc k) n u))
 
-pub figure-digits : (d : ℕ) → 10 ^ 8 ≤ d → d < 10 ^ 9 → last-digits 1 (d / 100000000) ++ last-digits 8 d ≡ decimal d
-figure-digits d l u = sym (last-split 1 8 d) ∙ sym (all-digits 8 20 d (lit≤ tt) l u)
+nine-digits : (d : ℕ) → 10 ^ 8 ≤ d → d < 10 ^ 9 → last-digits 1 (d / 100000000) ++ last-digits 8 d ≡ decimal d
+nine-digits d l u = sym (last-split 1 8 d) ∙ sym (all-digits 8 20 d (lit≤ tt) l u)
+
+pub figure-digits : FigureDigits
+unfolding last-digits
+figure-digits f (is-zero e p) n = absurd (n e)
+figure-digits f (is-whole l u) n =
+    record {
+      first = 48 + (f .digits / 100000000) % 10;
+      others = eight-digits f;
+      eight = length-last 8 (f .digits);
+      text-is = some-text f n;
+      digits-are = nine-digits (f .digits) l u;
+    }

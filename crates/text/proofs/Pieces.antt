@@ -8,7 +8,8 @@ use native.Mathlib.Numerals.{add-one}
 use lib.ListN.{length, take, getD, set, length-append, length-take}
 use lib.Seq.{take-suc, take-suc-set, length-take-le}
 use Rattle.text.specs.declared.Text.{Text}
-use Rattle.text.specs.Written.{contents, Holds, Room, Added}
+use Rattle.text.specs.Written.{contents, Holds}
+use Rattle.text.specs.Internal.Growing.{Room, Added}
 
 -- ---- adding
 

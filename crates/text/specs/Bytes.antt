@@ -3,7 +3,7 @@
 use Prim.Native.Nat.{ℕ, _+_, _*_, _≤_}
 use mathlib.Core.Path.{_≡_}
 use mathlib.Core.List.{List, [], _∷_}
-use lib.ListN.{length, getD, take}
+use lib.ListN.{length, take}
 
 -- a word of no kind: kind 0 stands nowhere in a table
 abbrev pub no-kind : ℕ
@@ -20,9 +20,10 @@ words-of (a ∷ b ∷ []) = no-kind ∷ []
 words-of (a ∷ b ∷ c ∷ []) = no-kind ∷ []
 words-of (a ∷ b ∷ c ∷ d ∷ rest) = word a b c d ∷ words-of rest
 
--- the word of a list's first four bytes
-abbrev pub word-at : List ℕ → ℕ
-word-at l = word (getD l 0 0) (getD l 1 0) (getD l 2 0) (getD l 3 0)
+-- How many bytes are looked at: one word's more than the 64,020 of the 16,005 words that a model may have, so that too many words are found to be
+-- too many. `AnswerEnough` (specs/Faithful.antt) says that the answer is that to all bytes.
+abbrev pub most-bytes : ℕ
+most-bytes = 64024
 
 -- What `words_of` promises: the first n of these words are those of the bytes. What the others hold is free.
 pub record Spelled (bytes words : List ℕ) (n : ℕ) : Type 0 where

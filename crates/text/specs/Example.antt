@@ -3,9 +3,9 @@
 use Prim.Native.Nat.{ℕ}
 use mathlib.Core.Path.{_≡_}
 use mathlib.Core.List.{List, [], _∷_}
-use Rattle.tree.specs.Report.{answer}
 use Rattle.text.specs.Bytes.{words-of, no-kind}
-use Rattle.text.specs.Text.{ascii, answer-text}
+use Rattle.text.specs.Text.{ascii}
+use Rattle.text.specs.Program.{printed}
 
 -- "words 11002001 2000000A 30000000 41801000 50001002 60400001 F0000000 (hexadecimal)", each "least significant first"
 abbrev pub bytes-A : List ℕ
@@ -18,10 +18,6 @@ bytes-A =
     ∷ 0x01 ∷ 0x00 ∷ 0x40 ∷ 0x60
     ∷ 0x00 ∷ 0x00 ∷ 0x00 ∷ 0xF0
     ∷ []
-
--- the text that the program prints for these bytes: "Budget 1,000,000."
-abbrev pub printed : List ℕ → List ℕ
-printed bytes = answer-text (answer (words-of bytes) 1000000)
 
 pub record AsDocumented : Type 0 where
   pub words-A : words-of bytes-A ≡ 0x11002001 ∷ 0x2000000A ∷ 0x30000000 ∷ 0x41801000 ∷ 0x50001002 ∷ 0x60400001 ∷ 0xF0000000 ∷ []

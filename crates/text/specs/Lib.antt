@@ -1,4 +1,7 @@
 pub mod Bytes
 pub mod Text
 pub mod Written
+pub mod Program
 pub mod Example
+pub mod Faithful
+pub mod Internal

@@ -7,7 +7,7 @@ use mathlib.Core.List.{List, [], _∷_, _++_}
 use lib.Dec.{ltb, eqb}
 use lib.IntN.{ℤ, pos, negsuc, _+ℤ_}
 use Rattle.figure.specs.declared.Figure.{Figure}
-use Rattle.model.specs.Reading.{Answer, refused, granted}
+use Rattle.word.specs.Answer.{Answer, refused, granted}
 use Rattle.tree.specs.Report.{Report}
 
 -- the numbers of a text's characters, which for those of ASCII are its bytes

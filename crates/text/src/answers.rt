@@ -4,15 +4,16 @@ use crate::bytes::words_of;
 use bounds::Answer;
 use bounds::Report;
 use bounds::unreliability;
-use model::Refusal;
+use word::Refusal;
 ghost use mathlib.Core.Path.{_≡_};
 ghost use Rattle.text.specs.Text.{answer-text};
 ghost use Rattle.text.specs.Bytes.{words-of};
 ghost use Rattle.text.specs.Written.{Holds};
-ghost use Rattle.model.specs.Reading.{refused, granted};
-ghost use Rattle.model.specs.Refusal.{number, place};
+ghost use Rattle.word.specs.Answer.{refused, granted};
+ghost use Rattle.word.specs.Refusal.{number, place};
 ghost use Rattle.bounds.specs.Answers.{report-of, answer-of};
 ghost use Rattle.tree.specs.Report.{answer};
+ghost use Rattle.accuracy.specs.Rule.{AccuracyRule};
 
 fn report_text(r: Report) -> Text
     ensures { λ t. ⌜ Holds (answer-text (granted (report-of r))) t ⌝ }
@@ -49,12 +50,22 @@ pub fn answer_text(a: Answer) -> Text
     }
 }
 
+// The text of the answer to these words. The lent words are unchanged.
+pub fn words_text(words: &[u32], budget: u64) -> Text
+    ensures { λ r. ⌜ Holds (answer-text (answer (now (words .entry)) budget)) r ⌝ }
+    ensures { λ _. ⌜ AccuracyRule (now (words .entry)) budget (answer (now (words .entry)) budget) ⌝ }
+    ensures { λ _. ⌜ now (words .exit) ≡ now (words .entry) ⌝ }
+{
+    answer_text(unreliability(words, budget))
+}
+
 // The text of the answer to the words of these bytes, however many. The lent bytes are unchanged.
 pub fn answered(bytes: &[u8], budget: u64) -> Text
     ensures { λ r. ⌜ Holds (answer-text (answer (words-of (now (bytes .entry))) budget)) r ⌝ }
+    ensures { λ _. ⌜ AccuracyRule (words-of (now (bytes .entry))) budget (answer (words-of (now (bytes .entry))) budget) ⌝ }
     ensures { λ _. ⌜ now (bytes .exit) ≡ now (bytes .entry) ⌝ }
 {
     let mut words = [0; 16006];
     let n = words_of(bytes, &mut words);
-    answer_text(unreliability(&words[..n], budget))
+    words_text(&words[..n], budget)
 }

@@ -3,7 +3,8 @@
 ghost use Prim.Native.Nat.{_+_, _*_, _≤_, _<_};
 ghost use mathlib.Core.Path.{_≡_};
 ghost use lib.ListN.{length, take};
-ghost use Rattle.text.specs.Bytes.{word-at, Spelled};
+ghost use Rattle.text.specs.Bytes.{most-bytes, Spelled};
+ghost use Rattle.text.specs.Internal.Words.{word-at};
 
 fn byte(x: u8) -> u32
     ensures { λ r. ⌜ (r ≡ x) × (r < 256) ⌝ }
@@ -40,7 +41,7 @@ fn fill(bytes: &[u8], words: &mut [u32; 16006]) -> usize
 // Puts the words of the bytes at the start of `words`, and answers how many there are. Of more than 64,024 bytes it takes the first
 // 64,024: these are 16,006 words, which is already more than a model may have. The lent bytes are unchanged; what `words` holds behind its words is free.
 pub fn words_of(bytes: &[u8], words: &mut [u32; 16006]) -> usize
-    ensures { λ r. ⌜ Spelled (take 64024 (now (bytes .entry))) (now (words .exit)) r ⌝ }
+    ensures { λ r. ⌜ Spelled (take most-bytes (now (bytes .entry))) (now (words .exit)) r ⌝ }
     ensures { λ _. ⌜ now (bytes .exit) ≡ now (bytes .entry) ⌝ }
 {
     *words = [0; 16006];

@@ -7,7 +7,7 @@ ghost use mathlib.Core.List.{[], _∷_};
 ghost use lib.IntN.{pos, natAbs, _+ℤ_};
 ghost use lib.Signed.{mag};
 ghost use Rattle.text.specs.Text.{digits-within, last-digits, signed-decimal, figure-text, line, decimal, figure-lines, count-lines, refusal-text};
-ghost use Rattle.text.specs.Written.{Room, Added};
+ghost use Rattle.text.specs.Internal.Growing.{Room, Added};
 
 // The last decimal digit of n, in ASCII.
 fn digit(n: u64) -> u8

@@ -4,8 +4,9 @@ use Rattle.fraction.specs.Fraction.{whole, ratio, inverse, ten, at-most, _+ᶠ_
 use Rattle.figure.specs.Rounding.{value, digits-from, digit-count, dividend, divisor, floor, ceiling, lowest-power, up-from, down-from, up, down}
 use Rattle.figure.specs.Operations.{times-up, times-down, plus-up, plus-down, minus-down, divided-up, divided-down, times-ten, of-whole, of-quantity}
 use Rattle.figure.specs.Operations.{at-or-below, total-up, total-down, to-nine-up, to-nine-down, sum-to-nine-up}
-use Rattle.model.specs.Model.{only, any, exits-in, has-fast, probability-sum}
-use Rattle.model.specs.Reading.{then, unless, next-transition, next, at-words-end, read-from, lowest-uneven, first-of, read}
+use Rattle.word.specs.Model.{only, any, exits-in, has-fast, probability-sum}
+use Rattle.word.specs.Answer.{then}
+use Rattle.model.specs.Reading.{unless, next-transition, next, at-words-end, read-from, lowest-uneven, first-of, read}
 use Rattle.tree.specs.Paths.{last-state, entries, class, class1-count}
 use Rattle.tree.specs.States.{time-squared, second-moment, sum-over, rate-sum, mean-up, mean-down, moment-sum}
 use Rattle.tree.specs.Upper.{upper-step, upper}

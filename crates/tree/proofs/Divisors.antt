@@ -8,10 +8,12 @@ use native.Mathlib.Omega.{arith}
 use native.Mathlib.Nat.{one-le-pow}
 use Rattle.figure.specs.Operations.{times-down, of-whole}
 use Rattle.figure.proofs.Positive.{Above, times-down-above, of-whole-above}
-use Rattle.model.specs.Model.{Manner, slow, fast, Transition, Net, Model, exits, has-fast}
-use Rattle.model.proofs.Valid.{Valid}
+use Rattle.word.specs.Model.{Manner, slow, fast, Transition, Net, Model, exits, has-fast}
+use Rattle.model.specs.Internal.Valid.{Valid}
+use Rattle.model.proofs.ReadValid.{read-valid}
 use Rattle.tree.specs.Paths.{Path, class1, class3, class-of, class, counts-1, class1-count}
 use Rattle.tree.specs.States.{mission-time, time-squared, mean-down}
+use Rattle.tree.specs.Faithful.{NoZeroDivisor}
 use Rattle.tree.proofs.Steps.{class1-count-more}
 use Rattle.tree.proofs.Quantities.{quantity-above}
 use Rattle.tree.proofs.Positive.{mean-down-above}
@@ -62,3 +64,15 @@ module _ {m : Model} (valid : Valid m) where
   -- down(n × T)
   pub grains-time-above : (n : ℕ) → 1 ≤ n → Above (times-down (of-whole n) (mission-time (m .net)))
   grains-time-above n h = times-down-above (of-whole n) (mission-time (m .net)) (of-whole-above n h) time-above
+
+pub no-zero-divisor : NoZeroDivisor
+no-zero-divisor ws budget m e =
+    let valid = read-valid ws budget m e in
+    record {
+      number = number-above (m .net);
+      number-more = number-more-above (m .net);
+      time-square = time-squared-above valid;
+      mean-by-time = mean-time-above valid;
+      square-by-time = square-time-above valid;
+      grains-by-time = grains-time-above valid;
+    }

@@ -11,10 +11,11 @@ use Rattle.fraction.proofs.Ratio.{ofℕ}
 use Rattle.fraction.proofs.Signed.{signed-whole, at-most-signed}
 use Rattle.figure.specs.declared.Figure.{Figure}
 use Rattle.figure.proofs.Value.{val, value-is}
-use Rattle.model.specs.declared.Quantity.{Quantity}
-use Rattle.model.specs.Model.{Manner, slow, fast, Transition, Net, has-fast, exits}
+use Rattle.word.specs.declared.Quantity.{Quantity}
+use Rattle.word.specs.Model.{Manner, slow, fast, Transition, Net, has-fast, exits}
 use Rattle.tree.specs.Paths.{Path, Class, class1, class2, class3, class-of, class}
 use Rattle.tree.specs.Grains.{Least, halve, reaches, least, class2-goal, class3-goal, class2-grains, class3-grains, grains-by, grains}
+use Rattle.tree.specs.Faithful.{LeastIsLeast}
 
 -- ---- the least is unique
 
@@ -84,7 +85,7 @@ reaches-stays e g m n h t =
 
 -- ---- the grains
 
-pub least-is-least : (e : ℕ) (g : Figure) → Least (reaches e g) 1000000 (least e g)
+pub least-is-least : LeastIsLeast
 unfolding least
 least-is-least e g = halve-least (reaches e g) 1000000 (reaches-stays e g) 20 0 1000000 (lit≤ tt) (record {
   apart = lit< tt;

@@ -18,3 +18,4 @@ pub mod Divisors
 pub mod RemainingTime
 pub mod Ranges
 pub mod Probabilities
+pub mod Faithful

@@ -1,30 +1,21 @@
 -- The order of the tree's visits, "in table order, depth first", and that no path stands twice. Assumes nothing.
-use Prim.Native.Nat.{ℕ, zero, suc, _≤_, _<_}
+use Prim.Native.Nat.{ℕ, zero, suc}
 use mathlib.Core.Path.{_≡_, refl, sym, ap, _∙_}
 use mathlib.Core.Bool.{Bool, true, false}
 use mathlib.Core.List.{List, [], _∷_, _++_, List·Memᴰ}
 use native.Mathlib.Omega.{arith}
-use lib.ListN.{length, getD, length-append}
+use lib.ListN.{length, length-append}
 use lib.Seq.{append-snoc}
-use Rattle.model.specs.Model.{Transition, Net, Limits, Model, is-fast, only, leaves, exits-in, exits}
-use Rattle.model.proofs.Valid.{Each, SameTransition, Distinct, Valid}
-use Rattle.model.proofs.Members.{each-monotone, each-member, only-pass, only-fail, each-only}
+use Rattle.word.specs.Model.{Transition, Net, Limits, is-fast, only, leaves, exits-in, exits}
+use Rattle.word.specs.Internal.Lists.{Each}
+use Rattle.model.specs.Internal.Valid.{SameTransition, Distinct}
+use Rattle.word.proofs.Members.{each-monotone, each-member, only-pass, only-fail, each-only}
+use Rattle.model.proofs.ReadValid.{read-valid}
 use Rattle.tree.specs.Paths.{Path, last-state}
 use Rattle.tree.specs.Tree.{outcome, is-continued, Visit, visits, tree}
-use Rattle.tree.proofs.Lists.{each-where, InOrder, in-order-where, in-order-flatMap, in-order-lookup, Earlier, earlier-in-order, same-end}
+use Rattle.tree.specs.Faithful.{Earlier, GoesOn, Before, goes-on, parts, TreeInOrder, NoPathTwice}
+use Rattle.tree.proofs.Lists.{each-where, InOrder, in-order-where, in-order-flatMap, in-order-lookup, earlier-in-order, same-end}
 use Rattle.tree.proofs.Visits.{visit, visits-from, visits-more, each-from, each-beyond, each-at-limit}
-
--- q goes on from p by at least one step; the last step stands first
-pub record GoesOn (p q : Path) : Type 0 where
-  pub more : Path
-  pub some : 1 ≤ length more
-  pub is : q ≡ more ++ p
-
--- The walk comes to p before q: q goes on from p ("depth first"), or the two part at a path b, where p takes an earlier exit than q ("in table
--- order").
-pub data Before (net : Net) (p q : Path) : Type 0 where
-  goes-on : GoesOn p q → Before net p q
-  parts : (b r s : Path) (t u : Transition) → Earlier (exits net (last-state net b)) t u → p ≡ r ++ t ∷ b → q ≡ s ++ u ∷ b → Before net p q
 
 longer : (t : Transition) (p : Path) {q : Path} → GoesOn (t ∷ p) q → GoesOn p q
 longer t p g = record {
@@ -82,10 +73,11 @@ module _ (net : Net) (limits : Limits) where
       (in-order-flatMap (Earlier ts) earlier-visit (λ t. visits-from net limits n (t ∷ p)) (λ t. from-in-order n (t ∷ p) (visits-in-order n (t ∷ p)))
       (exits-in-order n p) ts (earlier-in-order ts))
 
-  -- the law of the order
-  pub tree-in-order : InOrder (λ v w. Before net (v .path) (w .path)) (tree net limits)
-  unfolding tree
-  tree-in-order = visits-in-order (limits .steps) []
+-- the law of the order
+pub tree-in-order : TreeInOrder
+unfolding tree
+tree-in-order net limits d i j h k =
+    in-order-lookup (λ v w. Before net (v .path) (w .path)) (tree net limits) d (visits-in-order net limits (limits .step-limit) []) i j h k
 
 -- ---- no path stands twice, since a state's exits are distinct
 
@@ -112,8 +104,9 @@ before-differs net d (parts b r s t u h i j) e =
     earlier-differs (h .front) (rw (h .split) at (d (last-state net b))) (h .later) (same-end r s t u b (sym i ∙ e ∙ j))
 
 -- the law: two places of the tree's list hold two paths
-pub no-path-twice : (m : Model) → Valid m → (i j : ℕ) (d : Visit) → i < j → j < length (tree (m .net) (m .limits))
-    → (getD (tree (m .net) (m .limits)) i d) .path ≡ (getD (tree (m .net) (m .limits)) j d) .path → ⊥
-no-path-twice m valid i j d h k =
-    before-differs (m .net) (λ s. unfold exits-in in distinct-only (leaves s) (m .net .table) (valid .distinct))
-    (in-order-lookup (λ v w. Before (m .net) (v .path) (w .path)) (tree (m .net) (m .limits)) d (tree-in-order (m .net) (m .limits)) i j h k)
+pub no-path-twice : NoPathTwice
+unfolding exits-in
+no-path-twice ws budget m e d i j h k = before-differs (m .net) exits-distinct (tree-in-order (m .net) (m .limits) d i j h k)
+  where
+    exits-distinct : (s : ℕ) → Distinct (exits (m .net) s)
+    exits-distinct s = distinct-only (leaves s) (m .net .table) (read-valid ws budget m e .distinct)

@@ -10,11 +10,12 @@ use Rattle.figure.specs.declared.Figure.{Figure}
 use Rattle.figure.specs.Rounding.{none}
 pub use Rattle.figure.proofs.Positive.{Above, times-down-above, of-whole-above}
 use Rattle.figure.proofs.Positive.{times-up-above, plus-up-above, plus-down-above}
-use Rattle.model.specs.declared.Quantity.{Quantity}
-use Rattle.model.specs.Model.{Manner, slow, fast, Transition, Model, is-fast, any, exits, has-fast}
-use Rattle.model.proofs.Valid.{Each, ValidManner, ValidTransition, Valid}
-use Rattle.model.proofs.Members.{each-monotone}
-use Rattle.model.proofs.Exits.{exits-each}
+use Rattle.word.specs.declared.Quantity.{Quantity}
+use Rattle.word.specs.Model.{Manner, slow, fast, Transition, Model, is-fast, any, exits, has-fast}
+use Rattle.word.specs.Internal.Lists.{Each}
+use Rattle.model.specs.Internal.Valid.{ValidManner, ValidTransition, Valid}
+use Rattle.word.proofs.Members.{each-monotone}
+use Rattle.word.proofs.Exits.{exits-each}
 use Rattle.tree.specs.States.{sum-over, add-mean-up, add-mean-down, mean-up, mean-down}
 use Rattle.tree.proofs.Quantities.{quantity-above}
 

@@ -2,8 +2,7 @@
 -- if the sum of the fractions q over its fast exits equals 1. Assumes nothing.
 use Prim.Native.Nat.{ℕ, zero, suc, _+_, _-_, _*_, _^_, _≤_}
 use mathlib.Core.Path.{_≡_, ap}
-use mathlib.Core.Bool.{true}
-use mathlib.Core.List.{List, [], _∷_}
+use mathlib.Core.List.{List, [], _∷_, List·Memᴰ}
 use mathlib.Core.Logic.{_↔_}
 use native.Mathlib.Nat.{add-assoc, le-antisymm}
 use native.Mathlib.Omega.{arith}
@@ -13,29 +12,18 @@ use lib.Pow.{pow-add}
 use Rattle.fraction.specs.Fraction.{Fraction, _≈ᶠ_, whole, ratio, _+ᶠ_, _*ᶠ_}
 use Rattle.fraction.proofs.Laws.{≤ᶠ-antisym, ≈ᶠ-refl, ≈ᶠ-sym, ≈ᶠ-trans, ≈ᶠ-≤, ≈ᶠ-≥, *ᶠ-comm, *ᶠ-one, *ᶠ-zero, *ᶠ-+ᶠ, +ᶠ-cong, *ᶠ-cong, whole-+, ≤-whole}
 use Rattle.fraction.proofs.Quotients.{Positive, whole-positive, *ᶠ-cancel}
-use Rattle.model.specs.declared.Quantity.{Quantity}
-use Rattle.model.specs.Model.{Manner, slow, fast, Transition, Model, exits, has-fast, probability-units, probability-sum}
-use Rattle.model.proofs.Valid.{Each, ValidManner, Valid}
-use Rattle.model.proofs.Members.{each-monotone}
+use Rattle.word.specs.declared.Quantity.{Quantity}
+use Rattle.word.specs.Model.{Manner, slow, fast, Transition, Model, exits, probability-units, probability-sum}
+use Rattle.word.specs.Internal.Lists.{Each}
+use Rattle.model.specs.Internal.Valid.{ValidManner, Valid}
+use Rattle.word.proofs.Members.{each-member, each-of-members}
+use Rattle.model.proofs.ReadValid.{read-valid}
 use Rattle.tree.specs.States.{sum-over}
 use Rattle.tree.specs.Lower.{exact}
+use Rattle.tree.specs.Faithful.{add-exact-probability, exact-probability-sum, FineProbability, ProbabilitySum, ProbabilitiesSumToOne}
 use Rattle.tree.proofs.Positive.{exits-valid}
 
--- ---- the sum of the probabilities, exact
-
-abbrev pub add-exact-probability : Fraction → Manner → Fraction
-add-exact-probability a (slow r) = a
-add-exact-probability a (fast m d q) = a +ᶠ exact q
-
-unfoldable pub exact-probability-sum : List Transition → Fraction
-exact-probability-sum ts = sum-over add-exact-probability (whole 0) ts
-
--- "p is .. for kind 10 0 to 12"
-abbrev pub FineProbability : Manner → Type 0
-FineProbability (slow r) = Unit {0}
-FineProbability (fast m d q) = q .scale ≤ 12
-
-abbrev pub FineProbabilities : List Transition → Type 0
+abbrev FineProbabilities : List Transition → Type 0
 FineProbabilities ts = Each (λ t. FineProbability (t .manner)) ts
 
 -- ---- in whole numbers of 10^-12
@@ -101,19 +89,21 @@ units-one {x} {n} h =
     count e = le-antisymm (≤-whole (≈ᶠ-≤ e)) (≤-whole (≈ᶠ-≥ e))
 
 -- "their probabilities don't sum to exactly 1": the sum in whole numbers of 10^-12 is 10^12 exactly if that of the fractions is 1
-pub probability-sum-iff : (ts : List Transition) → FineProbabilities ts → (probability-sum ts ≡ 1000000000000) ↔ (exact-probability-sum ts ≈ᶠ whole 1)
-probability-sum-iff ts w = units-one (probabilities-units ts w)
+pub probability-sum-iff : ProbabilitySum
+probability-sum-iff ts w = units-one (probabilities-units ts (each-of-members (λ t. FineProbability (t .manner)) ts w))
 
 -- ---- an accepted model
 
 module _ {m : Model} (valid : Valid m) (s : ℕ) where
-  fine : FineProbabilities (exits (m .net) s)
-  fine = each-monotone (λ t. ValidManner (t .manner)) (λ t. FineProbability (t .manner)) (λ t. go (t .manner)) (exits (m .net) s) (exits-valid valid s)
+  fine : (t : Transition) → List·Memᴰ t (exits (m .net) s) → FineProbability (t .manner)
+  fine t k = go (t .manner) (each-member (λ t. ValidManner (t .manner)) k (exits-valid valid s))
     where
       go : (x : Manner) → ValidManner x → FineProbability x
       go (slow r) w = tt
       go (fast m d q) w = unfold ValidManner in w .1 .1 .scale
 
-  -- a state with fast exits: their probabilities sum to exactly 1
-  pub probabilities-sum-to-one : has-fast (exits (m .net) s) ≡ true → exact-probability-sum (exits (m .net) s) ≈ᶠ whole 1
-  probabilities-sum-to-one h = probability-sum-iff (exits (m .net) s) fine .0 (valid .even s h)
+-- a state with fast exits: their probabilities sum to exactly 1
+pub probabilities-sum-to-one : ProbabilitiesSumToOne
+probabilities-sum-to-one ws budget m e s h =
+    let valid = read-valid ws budget m e in
+    probability-sum-iff (exits (m .net) s) (fine valid s) .0 (valid .even s h)

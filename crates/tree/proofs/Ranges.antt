@@ -4,7 +4,7 @@ use mathlib.Core.Path.{_≡_, refl}
 use mathlib.Core.Bool.{Bool, true, false, not}
 use mathlib.Core.List.{List, [], _∷_}
 use Prim.Native.Nat.{ℕ, suc, _+_, _-_, _*_, _^_, _≤_, _<_}
-use native.Mathlib.Nat.{le-refl, le-trans, mul-le-mul-right, pow-le-pow-left, one-le-pow}
+use native.Mathlib.Nat.{le-trans, pow-le-pow-left, one-le-pow}
 use native.Mathlib.Omega.{arith}
 use lib.Dec.{T, leb, nleb→lt, lit≤}
 use lib.ListN.{length}
@@ -14,13 +14,14 @@ use Rattle.figure.specs.Rounding.{none, is-zero, up, down}
 use Rattle.figure.specs.Operations.{times-up, times-down, plus-up, minus-down, divided-up, times-ten, of-whole, total-up, total-down}
 use Rattle.figure.specs.Operands.{Sized, Operand}
 use Rattle.figure.proofs.Positive.{Above, times-down-above, of-whole-above}
-use Rattle.figure.proofs.Reach.{reach-wide}
 use Rattle.figure.proofs.Sized.{sized-≤, times-up-sized, times-down-sized, plus-up-sized, plus-down-sized, minus-down-sized}
 use Rattle.figure.proofs.Sized.{divided-up-sized, divided-down-sized, times-ten-sized, of-whole-sized, of-quantity-sized}
-use Rattle.figure.proofs.Gathered.{Gathered, gathered-none, gathered-one, total-up-gathered, total-down-gathered, gathered-sized}
-use Rattle.model.specs.declared.Quantity.{Quantity}
-use Rattle.model.specs.Model.{Manner, slow, fast, Transition, Net, Model, exits}
-use Rattle.model.proofs.Valid.{Each, InRange, ValidManner, Valid}
+use Rattle.figure.specs.Internal.Gathered.{Gathered}
+use Rattle.figure.proofs.Gathered.{gathered-none, gathered-one, gathered-more, total-up-gathered, total-down-gathered, gathered-sized}
+use Rattle.word.specs.declared.Quantity.{Quantity}
+use Rattle.word.specs.Model.{Manner, slow, fast, Transition, Net, Model, exits}
+use Rattle.word.specs.Internal.Lists.{Each}
+use Rattle.model.specs.Internal.Valid.{InRange, ValidManner, Valid}
 use Rattle.tree.specs.Paths.{Path, Class, class1, class2, class3, class, counts-1, class1-count}
 use Rattle.tree.specs.States.{figure-of, mission-time, time-squared, second-moment, sum-over, add-rate, add-mean-up, add-mean-down, add-moment, rate-sum, mean-up, mean-down, moment-sum}
 use Rattle.tree.specs.Upper.{share, upper-step, upper}
@@ -328,7 +329,7 @@ module _ {n : ℕ} {t : Figure} (h : Total n t) where
 
   -- a step that adds nothing
   pub total-same : Total (n + 1) t
-  total-same = record { is-figure = h .is-figure; reach = reach-wide (le-refl _) (mul-le-mul-right (10 ^ 40000) (omega arith)) (h .reach) }
+  total-same = gathered-more (omega arith) h
 
   pub total-operand : n ≤ 10 ^ 9 → Operand 18 t
   total-operand few = gathered-sized 100000 9 few (lit≤ tt) (lit≤ tt) h

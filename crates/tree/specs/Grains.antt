@@ -9,8 +9,8 @@ use Rattle.figure.specs.declared.Figure.{Figure}
 use Rattle.figure.specs.Rounding.{value}
 use Rattle.figure.specs.Operations.{times-up, times-down, divided-up, times-ten, of-whole}
 use lib.IntN.{pos}
-use Rattle.model.specs.declared.Quantity.{Quantity}
-use Rattle.model.specs.Model.{Manner, slow, fast, Transition, Net}
+use Rattle.word.specs.declared.Quantity.{Quantity}
+use Rattle.word.specs.Model.{Manner, slow, fast, Transition, Net}
 use Rattle.tree.specs.Paths.{Path, Class, class1, class2, class3, class}
 use Rattle.tree.specs.States.{mission-time, time-squared, second-moment, mean-down, moment-sum}
 
@@ -22,7 +22,7 @@ pub record Least (test : ℕ → Bool) (top n : ℕ) : Type 0 where
   pub first : (i : ℕ) → 1 ≤ i → i < n → T (test i) → ⊥
 
 -- The least number above `low` and up to `high` that passes a test that stays passed, by halving: a search from 1 on would take a million
--- steps. `fuel` bounds the halvings. That `least` below is the least in the sense of `Least` is the law `least-is-least` (crates/tree/proofs/Least.antt).
+-- steps. `fuel` bounds the halvings. That `least` below is the least in the sense of `Least` is `LeastIsLeast` (crates/tree/specs/Faithful.antt).
 unfoldable pub halve : ℕ → (ℕ → Bool) → ℕ → ℕ → ℕ
 halve zero test low high = high
 halve (suc fuel) test low high =

@@ -8,8 +8,8 @@ use Rattle.fraction.specs.Fraction.{Fraction, whole, ratio, _-ᶠ_, _*ᶠ_, _/�
 use Rattle.figure.specs.declared.Figure.{Figure}
 use Rattle.figure.specs.Rounding.{none, up, down}
 use Rattle.figure.specs.Operations.{times-up, times-down, plus-up, minus-down, divided-up, divided-down, times-ten, of-whole}
-use Rattle.model.specs.declared.Quantity.{Quantity}
-use Rattle.model.specs.Model.{Manner, slow, fast, Transition, Net}
+use Rattle.word.specs.declared.Quantity.{Quantity}
+use Rattle.word.specs.Model.{Manner, slow, fast, Transition, Net}
 use Rattle.tree.specs.Paths.{Path, Class, class1, class2, class3, class, class1-count}
 use Rattle.tree.specs.States.{figure-of, mission-time, time-squared, second-moment, rate-sum, mean-down, moment-sum}
 use Rattle.tree.specs.Upper.{share}

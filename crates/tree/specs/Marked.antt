@@ -10,7 +10,8 @@ use lib.Dec.{eqb}
 use Rattle.figure.specs.declared.Figure.{Figure}
 use Rattle.figure.specs.Rounding.{figure, none}
 use Rattle.figure.specs.Operations.{times-up, times-down}
-use Rattle.model.specs.Reading.{Answer, read}
+use Rattle.word.specs.Answer.{Answer}
+use Rattle.model.specs.Reading.{read}
 use Rattle.model.specs.Index.{transition}
 use Rattle.tree.specs.Grains.{grains}
 use Rattle.tree.specs.Report.{Report, answer}

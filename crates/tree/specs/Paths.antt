@@ -4,7 +4,7 @@ use Prim.Native.Nat.{ℕ, _+_}
 use mathlib.Core.Bool.{Bool, true, false}
 use mathlib.Core.List.{List, [], _∷_, List·Mem}
 use lib.Dec.{eqb}
-use Rattle.model.specs.Model.{Manner, slow, fast, Transition, Net, exits, has-fast}
+use Rattle.word.specs.Model.{Manner, slow, fast, Transition, Net, exits, has-fast}
 
 -- "A path is a list of transitions from the start, each leaving where the one before arrived." It is held with its last step first.
 abbrev pub Path : Type 0

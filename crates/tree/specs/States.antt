@@ -6,8 +6,8 @@ use mathlib.Core.List.{List, foldl}
 use Rattle.figure.specs.declared.Figure.{Figure}
 use Rattle.figure.specs.Rounding.{none}
 use Rattle.figure.specs.Operations.{times-up, times-down, plus-up, plus-down, of-quantity}
-use Rattle.model.specs.declared.Quantity.{Quantity}
-use Rattle.model.specs.Model.{Manner, slow, fast, Transition, Net, exits}
+use Rattle.word.specs.declared.Quantity.{Quantity}
+use Rattle.word.specs.Model.{Manner, slow, fast, Transition, Net, exits}
 
 -- a quantity as a figure, which is exact
 abbrev pub figure-of : Quantity → Figure

@@ -3,7 +3,7 @@ use Prim.Native.Nat.{ℕ}
 use mathlib.Core.List.{[], _∷_}
 use Rattle.figure.specs.declared.Figure.{Figure}
 use Rattle.figure.specs.Operations.{times-up, divided-up, of-whole}
-use Rattle.model.specs.Model.{Manner, slow, fast, Transition, Net}
+use Rattle.word.specs.Model.{Manner, slow, fast, Transition, Net}
 use Rattle.tree.specs.Paths.{Path, Class, class1, class2, class3, class, class1-count}
 use Rattle.tree.specs.States.{figure-of, mission-time, mean-up}
 

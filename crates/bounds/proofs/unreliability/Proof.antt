@@ -3,8 +3,8 @@ use mathlib.Core.Path.{refl}
 use native.Mathlib.Nat.{le-trans}
 use borrow.Author.Needs.{needs}
 use borrow.Author.Tests.{lt-ltb, le-ltb}
-use Rattle.bounds.proofs.Begin.{accepts-of, refuses-of, reads-described, accepted-indexes, accepted-summary, accepted-budget}
-use Rattle.bounds.proofs.Promise.{promise, refused-is, over-is, report-is}
+use Rattle.bounds.proofs.WalkBegin.{accepts-of, refuses-of, reads-described, accepted-indexes, accepted-summary, accepted-budget}
+use Rattle.bounds.proofs.AnswerPromise.{promise, refused-is, over-is, report-is}
 use Rattle.bounds.proofs.unreliability.Statement.{statement}
 use Rattle.bounds.proofs.unreliability.Tie as tie
 
@@ -19,23 +19,23 @@ enum-known-r-2 c = search needs
 
 walked-requires : tie.Need-walked-requires
 walked-requires c κs =
-    let k = c .before .before .before .before in
+    let k = c .before .before in
     let a = accepts-of (k .before .before .read .ensures .answer) (k .r2 .given .1) in
     (accepted-indexes a, accepted-summary a, accepted-budget a)
 
 returns : tie.Need-returns
 returns c =
     let w = c .before .before in
-    let k = w .before .before .before .before .before in
+    let k = w .before .before .before in
     let a = accepts-of (k .before .before .read .ensures .answer) (k .r2 .given .1) in
     promise _ _ _ _ refl (over-is _ _ _ (reads-described a) (w .walked .result) (w .walked .ensures .0) (lt-ltb _ _ (c .if1 .taken)))
 
 reported-requires : tie.Need-reported-requires
 reported-requires c κs =
     let w = c .before .before in
-    let k = w .before .before .before .before .before in
+    let k = w .before .before .before in
     let a = accepts-of (k .before .before .read .ensures .answer) (k .r2 .given .1) in
-    (w .walked .ensures .1, le-trans (c .if1 .left) (accepted-budget a))
+    (w .walked .ensures .1 .0, le-trans (c .if1 .left) (accepted-budget a))
 
 returns-2 : tie.Need-returns-2
 returns-2 c =
@@ -47,7 +47,7 @@ returns-3 : tie.Need-returns-3
 returns-3 c =
     let e = c .before in
     let w = e .before .before in
-    let k = w .before .before .before .before .before in
+    let k = w .before .before .before in
     let a = accepts-of (k .before .before .read .ensures .answer) (k .r2 .given .1) in
     promise _ _ _ _ refl (report-is _ _ _ (reads-described a) (w .walked .result) (w .walked .ensures .0) (c .reported .result) (c .reported .ensures) (le-ltb _ _ (e .if1 .left)))
 

@@ -5,43 +5,45 @@ use mathlib.Core.Path.{_≡_, sym, ap, _∙_}
 use mathlib.Core.Bool.{true}
 use mathlib.Core.Logic.{⊎-elim}
 use native.Mathlib.Omega.{arith}
-use lib.ListN.{length, getD}
+use lib.ListN.{length}
 use borrow.Author.Needs.{needs}
+use Rattle.model.specs.Index.{exit-count}
 use Rattle.tree.specs.Tree.{is-continued}
 use Rattle.tree.proofs.Outcomes.{is-death-true}
-use Rattle.bounds.specs.Walk.{outcome-of}
-use Rattle.bounds.proofs.Loop.{AtExit, exit-same, state-small, room, ones-few, exit-ready, loop-start, steps-few, loop-end, loop-over}
-use Rattle.bounds.proofs.Noting.{last-lower}
-use Rattle.bounds.proofs.Turns.{Turn, Visited, there-small, judge-figures, last-step, note-figures}
-use Rattle.bounds.proofs.Turns.{death-noted, step-noted, cut-noted, visit-ended, before-fits, ready-there, visit-over, visit-back}
+use Rattle.bounds.specs.Internal.Lent.{Lent, lent}
+use Rattle.bounds.specs.Internal.Outcomes.{outcome-of}
+use Rattle.bounds.specs.Internal.Walk.{Asked, asked}
+use Rattle.bounds.proofs.DeathStems.{last-lower}
+use Rattle.bounds.proofs.WalkLoop.{Held, held, AtExit, exit-same, state-small, room, ones-few, exit-ready, loop-start, steps-few, loop-end, loop-over, ends-steps}
+use Rattle.bounds.proofs.WalkTurns.{Turn, Visited, judged-there, there-small, judge-figures, last-step, note-figures, death-noted, step-noted, cut-noted}
+use Rattle.bounds.proofs.WalkTurns.{visit-ended, before-fits, ready-there, visit-over, visit-back}
 use borrow.Fn.Kinds.{In}
 use borrow.Fn.PlainCycle.{Measures, is, falls, and}
 use Rattle.bounds.proofs.walk.walk.Reads as walk
 use Rattle.bounds.proofs.walk.walk.Kinds as walk-kinds
 use Rattle.bounds.proofs.walk.+walk.Lts-walk as walk-lts
-use Rattle.bounds.proofs.states.small.Reads as small-reads
-use Rattle.bounds.proofs.states.wide.Reads as wide-reads
-use Rattle.bounds.proofs.walk.exit_at.Reads as exit-at-reads
-use Rattle.bounds.proofs.visit.death.Reads as death-reads
-use Rattle.bounds.proofs.visit.is_continued.Reads as is-continued-reads
-use Rattle.bounds.proofs.visit.is_death.Reads as is-death-reads
-use Rattle.bounds.proofs.visit.judge.Reads as judge-reads
-use Rattle.bounds.proofs.visit.no_cache.Reads as no-cache-reads
-use Rattle.bounds.proofs.visit.with_cut.Reads as with-cut-reads
-use Rattle.bounds.proofs.visit.with_death.Reads as with-death-reads
-use Rattle.bounds.proofs.visit.with_step.Reads as with-step-reads
+use Rattle.bounds.proofs.deaths.death.Reads as death-reads
+use Rattle.bounds.proofs.deaths.no_cache.Reads as no-cache-reads
+use Rattle.bounds.proofs.exits.exit_at.Reads as exit-at-reads
+use Rattle.bounds.proofs.outcome.is_continued.Reads as is-continued-reads
+use Rattle.bounds.proofs.outcome.is_death.Reads as is-death-reads
+use Rattle.bounds.proofs.outcome.judge.Reads as judge-reads
+use Rattle.bounds.proofs.totals.with_cut.Reads as with-cut-reads
+use Rattle.bounds.proofs.totals.with_death.Reads as with-death-reads
+use Rattle.bounds.proofs.totals.with_step.Reads as with-step-reads
 use Rattle.figure.proofs.Figure.of_whole.Reads as of-whole-reads
+use Rattle.model.proofs.index.exit_count.Reads as exit-count-reads
 use Rattle.bounds.proofs.walk.+walk.{statement}
 use Rattle.bounds.proofs.walk.+walk.Tie.{close}
 
-abbrev μ-walk : Measures 9 walk-kinds.ps ℕ
-μ-walk κs a = a .1 .1 .1 .1 .1 .1 .1 .1 .1 .1 .1 .0
+abbrev μ-walk : Measures 3 walk-kinds.ps ℕ
+μ-walk κs a = a .1 .1 .1 .1 .1 .0
 
-abbrev walk-at : ℕ → In 9 walk-kinds.ps
-walk-at t = and 9 walk-kinds.ps (is 9 walk-kinds.ps μ-walk t) walk.Pre
+abbrev walk-at : ℕ → In 3 walk-kinds.ps
+walk-at t = and 3 walk-kinds.ps (is 3 walk-kinds.ps μ-walk t) walk.Pre
 
-abbrev walk-below : ℕ → In 9 walk-kinds.ps
-walk-below t = and 9 walk-kinds.ps (falls 9 walk-kinds.ps _<_ μ-walk t) walk.Pre
+abbrev walk-below : ℕ → In 3 walk-kinds.ps
+walk-below t = and 3 walk-kinds.ps (falls 3 walk-kinds.ps _<_ μ-walk t) walk.Pre
 
 abbrev claims : ℕ → walk-lts.Claims
 claims t = (
@@ -49,8 +51,8 @@ claims t = (
   of-whole-reads.Learnt,
   no-cache-reads.Asked,
   no-cache-reads.Learnt,
-  small-reads.Asked,
-  small-reads.Learnt,
+  exit-count-reads.Asked,
+  exit-count-reads.Learnt,
   with-step-reads.Asked,
   with-step-reads.Learnt,
   exit-at-reads.Asked,
@@ -59,8 +61,6 @@ claims t = (
   judge-reads.Learnt,
   is-death-reads.Asked,
   is-death-reads.Learnt,
-  wide-reads.Asked,
-  wide-reads.Learnt,
   death-reads.Asked,
   death-reads.Learnt,
   with-death-reads.Asked,
@@ -74,17 +74,23 @@ claims t = (
 )
 
 abbrev walk-Inv-loop : walk-lts.InvT-loop
-walk-Inv-loop words slots counts places shares grains factors rates means task tip left path nth entered₀ taken₀ sums₀ cache₀ time level s len count i₀ entered taken sums cache i =
-    (i ≤ count) × AtExit words task tip left entered₀ taken₀ sums₀ i entered taken sums cache
+walk-Inv-loop words index table task tip left path nth entered₀ taken₀ sums₀ cache₀ time level len count i₀ entered taken sums cache i =
+    (i ≤ count) × AtExit (lent words index table) (asked task tip left entered₀ taken₀ sums₀) (held i entered taken sums cache)
 
 abbrev walk-μ-loop : walk-lts.MeasureT-loop
-walk-μ-loop words slots counts places shares grains factors rates means task tip left path nth entered₀ taken₀ sums₀ cache₀ time level s len count i₀ entered taken sums cache i =
+walk-μ-loop words index table task tip left path nth entered₀ taken₀ sums₀ cache₀ time level len count i₀ entered taken sums cache i =
     count - i
 
 -- ---- the places of a turn: where the exit was read, and where the visit was noted
 
+abbrev Start : ℕ → Type 0
+Start t = walk-lts.Start (claims t) (walk-at t) walk.Post walk-Inv-loop walk-μ-loop
+
 abbrev AtLoop : ℕ → Type 0
 AtLoop t = walk-lts.At-loop (claims t) (walk-at t) walk.Post walk-Inv-loop walk-μ-loop
+
+abbrev InLoop : ℕ → Type 0
+InLoop t = walk-lts.In-loop (claims t) (walk-at t) walk.Post walk-Inv-loop walk-μ-loop
 
 abbrev ExitRead : ℕ → Type 0
 ExitRead t = walk-lts.After-exit-at (claims t) (walk-at t) walk.Post walk-Inv-loop walk-μ-loop
@@ -98,20 +104,28 @@ StepNoted t = walk-lts.After-with-step2 (claims t) (walk-at t) walk.Post walk-In
 abbrev exit-loop : (t : ℕ) (c : ExitRead t) → AtLoop t
 exit-loop t c = c .before .before .before .before .before
 
-abbrev loop-begin : (t : ℕ) (c : AtLoop t) → walk-lts.Start (claims t) (walk-at t) walk.Post walk-Inv-loop walk-μ-loop
-loop-begin t c = c .before .before .before .before .before .before .before .before .before
+abbrev loop-begin : (t : ℕ) (c : AtLoop t) → Start t
+loop-begin t c = c .before .before .before .before .before .before .before .before
 
-more-at : (t : ℕ) (c : walk-lts.In-loop (claims t) (walk-at t) walk.Post walk-Inv-loop walk-μ-loop)
-    → c .before .loop .i < getD ((loop-begin t (c .before)) .args .counts .now) ((loop-begin t (c .before)) .args .tip .state) 0
-more-at t c = omega (arith, c .before .before .small .ensures .0, c .loop-test .taken)
+-- what is lent, what is asked for, and what the loop holds
+
+abbrev lent-at : (t : ℕ) (c : Start t) → Lent
+lent-at t c = lent (c .args .words .now) (c .args .index .now) (c .args .table .now)
+
+abbrev asked-at : (t : ℕ) (c : Start t) → Asked
+asked-at t c = asked (c .args .task) (c .args .tip) (c .args .left) (c .args .entries) (c .args .path) (c .args .totals)
+
+abbrev held-at : (t : ℕ) (c : AtLoop t) → Held
+held-at t c = held (c .loop .i) (c .loop .entered) (c .loop .taken) (c .loop .sums) (c .loop .cache)
+
+more-at : (t : ℕ) (c : InLoop t)
+    → c .before .loop .i < exit-count ((loop-begin t (c .before)) .args .index .now) ((loop-begin t (c .before)) .args .tip .state)
+more-at t c = omega (arith, c .before .before .exit-count .ensures .0, c .loop-test .taken)
 
 abbrev TurnAt : (t : ℕ) (c : ExitRead t) → Type 0
 TurnAt t c =
     let k = exit-loop t c in
-    let s = (loop-begin t k) .args in
-    Turn (s .words .now) (s .slots .now) (s .counts .now) (s .places .now) (s .shares .now) (s .grains .now) (s .factors .now) (s .rates .now) (s .means .now)
-    (s .task) (s .tip) (s .left) (s .entries) (s .path) (s .totals)
-    (k .loop .i) (k .loop .entered) (k .loop .taken) (k .loop .sums) (k .loop .cache) (c .exit-at .result)
+    Turn (lent-at t (loop-begin t k)) (asked-at t (loop-begin t k)) (held-at t k) (c .exit-at .result)
 
 turn : (t : ℕ) (c : ExitRead t) → TurnAt t c
 turn t c =
@@ -136,19 +150,21 @@ abbrev VisitedAt : (t : ℕ) (c : StepNoted t) → Type 0
 VisitedAt t c =
     let e = read-exit t (tested t c) in
     let k = exit-loop t e in
-    let s = (loop-begin t k) .args in
-    Visited (s .words .now) (s .slots .now) (s .counts .now) (s .places .now) (s .shares .now) (s .grains .now) (s .factors .now) (s .rates .now) (s .means .now)
-    (s .task) (s .tip) (s .left) (s .entries) (s .path) (s .totals)
-    (k .loop .i) (k .loop .entered) (k .loop .taken) (k .loop .sums) (k .loop .cache) (e .exit-at .result)
-    ((tested t c) .before .judge .result) (e .exit-at .result .index) (c .with-step2 .result) (k .loop .cache)
+    Visited (lent-at t (loop-begin t k)) (asked-at t (loop-begin t k)) (held-at t k) (e .exit-at .result)
+    ((tested t c) .before .judge .result) (c .with-step2 .result) (k .loop .cache)
 
 on : (t : ℕ) (c : StepNoted t) → is-continued (outcome-of ((tested t c) .before .judge .result)) ≡ true
 on t c = sym (c .before .before .is-continued .ensures) ∙ c .before .if3 .taken
 
+-- what the path through the exit is judged to be, by the number of exits as it was read
+judged-at : (t : ℕ) (c : Tested t) → let e = read-exit t c in let k = exit-loop t e in
+    outcome-of (c .before .judge .result) ≡ judged-there (lent-at t (loop-begin t k)) (asked-at t (loop-begin t k)) (held-at t k) (e .exit-at .result)
+judged-at t c = rw (c .before .before .exit-count2 .ensures .0) at (c .before .judge .ensures)
+
 visited : (t : ℕ) (c : StepNoted t) → VisitedAt t c
 visited t c =
     let j = (tested t c) .before .judge in
-    step-noted (turn t (read-exit t (tested t c))) (j .result) (j .ensures) (c .with-step2 .ensures .1) (on t c) (c .with-step2 .ensures .0)
+    step-noted (turn t (read-exit t (tested t c))) (j .result) (judged-at t (tested t c)) (c .with-step2 .ensures .1) (on t c) (c .with-step2 .ensures .0)
 
 walk-add-of-whole : (t : ℕ) → walk-lts.Need-add-of-whole (claims t) (walk-at t) walk.Post walk-Inv-loop walk-μ-loop
 walk-add-of-whole t c = omega (arith, ones-few (c .before .before .pre .1))
@@ -159,18 +175,15 @@ walk-of-whole-requires t c κs = search needs
 walk-no-cache-requires : (t : ℕ) → walk-lts.Need-no-cache-requires (claims t) (walk-at t) walk.Post walk-Inv-loop walk-μ-loop
 walk-no-cache-requires t c κs = tt
 
-walk-element-copy-out-small : (t : ℕ) → walk-lts.Need-element-copy-out-small (claims t) (walk-at t) walk.Post walk-Inv-loop walk-μ-loop
-walk-element-copy-out-small t c = state-small (c .before .before .before .before .before .before .pre .1)
-
-walk-small-requires : (t : ℕ) → walk-lts.Need-small-requires (claims t) (walk-at t) walk.Post walk-Inv-loop walk-μ-loop
-walk-small-requires t c κs = tt
+walk-exit-count-requires : (t : ℕ) → walk-lts.Need-exit-count-requires (claims t) (walk-at t) walk.Post walk-Inv-loop walk-μ-loop
+walk-exit-count-requires t c κs = state-small (c .before .before .before .before .before .before .pre .1)
 
 walk-loop-holds : (t : ℕ) → walk-lts.Need-loop-holds (claims t) (walk-at t) walk.Post walk-Inv-loop walk-μ-loop
 walk-loop-holds t c =
-    let s = c .before .before .before .before .before .before .before .before in
-    let good = s .good .1 .1 .1 .1 .1 .1 .1 .1 .1 .1 .1 .1 .1 .0 in
+    let s = c .before .before .before .before .before .before .before in
+    let good = s .good .1 .1 .1 .1 .1 .1 .1 .0 in
     let size : length (s .args .path) ≡ 24 = search needs in
-    (omega arith, loop-start (s .pre .1) size (c .before .before .before .before .no-cache .ensures _ _ _))
+    (omega arith, loop-start (s .pre .1) size (c .before .before .before .no-cache .ensures _ _ _))
 
 walk-with-step-requires : (t : ℕ) → walk-lts.Need-with-step-requires (claims t) (walk-at t) walk.Post walk-Inv-loop walk-μ-loop
 walk-with-step-requires t c κs =
@@ -181,19 +194,21 @@ walk-returns : (t : ℕ) → walk-lts.Need-returns (claims t) (walk-at t) walk.P
 walk-returns t c =
     let i = c .before in
     let k = i .before .before .before .before in
-    (loop-over ((loop-begin t k) .pre .1) (k .loop .inv .1) (more-at t (i .before .before .before)) (i .if1 .taken) (c .with-step .ensures .0), c .with-step .ensures .1)
+    let r = (loop-begin t k) .pre .1 in
+    let ends = loop-over r (k .loop .inv .1) (more-at t (i .before .before .before)) (i .if1 .taken) (c .with-step .ensures .0) in
+    (ends, (c .with-step .ensures .1, ends-steps r ends))
 
 walk-exit-at-requires : (t : ℕ) → walk-lts.Need-exit-at-requires (claims t) (walk-at t) walk.Post walk-Inv-loop walk-μ-loop
 walk-exit-at-requires t c κs =
     let n = c .before .before .before in
-    let o = n .before .before .before .before .before .before .before in
+    let o = n .before .before .before .before .before .before in
     (exit-ready ((loop-begin t (n .before)) .pre .1) (more-at t n), o .of-whole .ensures)
 
 walk-array-read-before : (t : ℕ) → walk-lts.Need-array-read-before (claims t) (walk-at t) walk.Post walk-Inv-loop walk-μ-loop
-walk-array-read-before t c = there-small (turn t (c .before .before))
+walk-array-read-before t c = let h = there-small (turn t (c .before .before)) in omega arith
 
-walk-element-copy-out-judge : (t : ℕ) → walk-lts.Need-element-copy-out-judge (claims t) (walk-at t) walk.Post walk-Inv-loop walk-μ-loop
-walk-element-copy-out-judge t c = there-small (turn t (c .before .before))
+walk-exit-count-requires-2 : (t : ℕ) → walk-lts.Need-exit-count-requires-2 (claims t) (walk-at t) walk.Post walk-Inv-loop walk-μ-loop
+walk-exit-count-requires-2 t c κs = there-small (turn t (c .before .before))
 
 walk-sub-judge : (t : ℕ) → walk-lts.Need-sub-judge (claims t) (walk-at t) walk.Post walk-Inv-loop walk-μ-loop
 walk-sub-judge t c = (turn t (c .before .before .before)) .ready .more
@@ -204,30 +219,33 @@ walk-judge-requires t c κs = judge-figures (turn t (c .before .before .before))
 walk-is-death-requires : (t : ℕ) → walk-lts.Need-is-death-requires (claims t) (walk-at t) walk.Post walk-Inv-loop walk-μ-loop
 walk-is-death-requires t c κs = tt
 
-walk-wide-requires : (t : ℕ) → walk-lts.Need-wide-requires (claims t) (walk-at t) walk.Post walk-Inv-loop walk-μ-loop
-walk-wide-requires t c κs = tt
-
 walk-death-requires : (t : ℕ) → walk-lts.Need-death-requires (claims t) (walk-at t) walk.Post walk-Inv-loop walk-μ-loop
 walk-death-requires t c κs =
-    let w = turn t (read-exit t (c .before .before)) in
-    let o = (exit-loop t (read-exit t (c .before .before))) .before .before .before .before .before .before in
-    (w .ready .tabled, ((last-step w (c .wide .ensures .0), w .ready .task-is .time-is), (w .kept .cached, o .of-whole .ensures)))
+    let e = read-exit t (c .before) in
+    let w = turn t e in
+    let o = (exit-loop t e) .before .before .before .before .before in
+    ((last-step w, o .of-whole .ensures), w .kept .cached)
 
 walk-with-death-requires : (t : ℕ) → walk-lts.Need-with-death-requires (claims t) (walk-at t) walk.Post walk-Inv-loop walk-μ-loop
 walk-with-death-requires t c κs =
     let d = c .before .before in
-    let w = turn t (read-exit t (d .before .before .before)) in
+    let w = turn t (read-exit t (d .before .before)) in
     let h = note-figures w in
-    (h .0, h .1, last-lower (w .ready .tabled .classed .valid) (last-step w (d .before .wide .ensures .0)) (d .death .ensures .0), h .2)
+    (h .0, h .1, last-lower (last-step w) (d .death .ensures .0), h .2)
 
 walk-is-continued-requires : (t : ℕ) → walk-lts.Need-is-continued-requires (claims t) (walk-at t) walk.Post walk-Inv-loop walk-μ-loop
 walk-is-continued-requires t c κs = tt
+
+walk-with-step-requires-2 : (t : ℕ) → walk-lts.Need-with-step-requires-2 (claims t) (walk-at t) walk.Post walk-Inv-loop walk-μ-loop
+walk-with-step-requires-2 t c κs =
+    let w = turn t (read-exit t (c .before .before .before)) in
+    (w .kept .counted, steps-few (w .ready) (w .kept))
 
 walk-add-entered : (t : ℕ) → walk-lts.Need-add-entered (claims t) (walk-at t) walk.Post walk-Inv-loop walk-μ-loop
 walk-add-entered t c = omega (arith, before-fits (visited t c) (on t c))
 
 walk-array-write-entered : (t : ℕ) → walk-lts.Need-array-write-entered (claims t) (walk-at t) walk.Post walk-Inv-loop walk-μ-loop
-walk-array-write-entered t c = there-small ((visited t c) .turn)
+walk-array-write-entered t c = let h = there-small ((visited t c) .turn) in omega arith
 
 walk-mul-taken : (t : ℕ) → walk-lts.Need-mul-taken (claims t) (walk-at t) walk.Post walk-Inv-loop walk-μ-loop
 walk-mul-taken t c = omega (arith, room ((visited t c) .turn .ready))
@@ -238,11 +256,6 @@ walk-array-write-taken t c = omega (arith, room ((visited t c) .turn .ready), (v
 walk-sub-walk : (t : ℕ) → walk-lts.Need-sub-walk (claims t) (walk-at t) walk.Post walk-Inv-loop walk-μ-loop
 walk-sub-walk t c = (visited t c) .turn .ready .more
 
-walk-with-step-requires-2 : (t : ℕ) → walk-lts.Need-with-step-requires-2 (claims t) (walk-at t) walk.Post walk-Inv-loop walk-μ-loop
-walk-with-step-requires-2 t c κs =
-    let w = turn t (read-exit t (c .before .before .before)) in
-    (w .kept .counted, steps-few (w .ready) (w .kept))
-
 walk-walk-requires : (t : ℕ) → walk-lts.Need-walk-requires (claims t) (walk-at t) walk.Post walk-Inv-loop walk-μ-loop
 walk-walk-requires t c κs =
     let v = visited t c in
@@ -250,12 +263,14 @@ walk-walk-requires t c κs =
     (omega (arith, s .pre .0, v .turn .ready .more), ready-there v (on t c))
 
 walk-array-write-entered-2 : (t : ℕ) → walk-lts.Need-array-write-entered-2 (claims t) (walk-at t) walk.Post walk-Inv-loop walk-μ-loop
-walk-array-write-entered-2 t c = there-small ((visited t (c .before)) .turn)
+walk-array-write-entered-2 t c = let h = there-small ((visited t (c .before)) .turn) in omega arith
 
 walk-returns-2 : (t : ℕ) → walk-lts.Need-returns-2 (claims t) (walk-at t) walk.Post walk-Inv-loop walk-μ-loop
 walk-returns-2 t c =
     let w = c .before .before .before in
-    (visit-over (visited t (w .before)) (on t (w .before)) (w .walk .ensures .0) (c .if4 .taken), w .walk .ensures .1)
+    let v = visited t (w .before) in
+    let ends = visit-over v (on t (w .before)) (w .walk .ensures .0) (c .if4 .taken) in
+    (ends, (w .walk .ensures .1 .0, ends-steps (v .turn .ready) ends))
 
 walk-with-cut-requires : (t : ℕ) → walk-lts.Need-with-cut-requires (claims t) (walk-at t) walk.Post walk-Inv-loop walk-μ-loop
 walk-with-cut-requires t c κs = note-figures (turn t (read-exit t (c .before .before .before)))
@@ -263,7 +278,7 @@ walk-with-cut-requires t c κs = note-figures (turn t (read-exit t (c .before .b
 walk-add-i : (t : ℕ) → walk-lts.Need-add-i (claims t) (walk-at t) walk.Post walk-Inv-loop walk-μ-loop
 walk-add-i t c =
     let n = (read-exit t (c .before)) .before .before .before .before in
-    omega (arith, n .loop-test .taken, n .before .before .small .ensures .1)
+    omega (arith, n .loop-test .taken, n .before .before .exit-count .ensures .1)
 
 walk-loop-less : (t : ℕ) → walk-lts.Need-loop-less (claims t) (walk-at t) walk.Post walk-Inv-loop walk-μ-loop
 walk-loop-less t c = let n = (read-exit t (c .before)) .before .before .before .before in omega (arith, n .loop-test .taken)
@@ -273,20 +288,20 @@ walk-loop-again t c =
     let e = read-exit t (c .before) in
     let w = turn t e in
     let o = c .before .before .judge .result in
-    let is = c .before .before .judge .ensures in
+    let is = judged-at t (c .before) in
     let dead = sym (c .before .is-death .ensures) in (
       omega (arith, e .before .before .before .before .loop-test .taken),
       ⊎-elim
           (λ d. let died = dead ∙ d .0 .taken in
-          exit-same (d .6) (d .7) (d .8) (d .9)
-          (visit-ended (death-noted w o is (d .5 .ensures .1) (d .1 .ensures .0) died (d .2 .ensures .0) (d .5 .ensures .0) (d .2 .ensures .1))
+          exit-same (d .5) (d .6) (d .7) (d .8)
+          (visit-ended (death-noted w o is (d .4 .ensures .1) died (d .1 .ensures .0) (d .4 .ensures .0) (d .1 .ensures .1))
           (ap is-continued (is-death-true (outcome-of o) died))))
           (⊎-elim
           (λ d. let g : StepNoted t = record {
             before = record { before = record { before = record { before = c .before; if2 = d .0 }; is-continued = d .1 }; if3 = d .2 };
             with-step2 = d .3;
           } in
-          exit-same (d .8) (d .9) (d .10) (d .11) (visit-back (visited t g) (on t g) (d .4 .ensures .0) (d .4 .ensures .1) (d .7 .left)))
+          exit-same (d .8) (d .9) (d .10) (d .11) (visit-back (visited t g) (on t g) (d .4 .ensures .0) (d .4 .ensures .1 .0) (d .7 .left)))
           (λ d. let ended = sym (d .1 .ensures) ∙ d .2 .left in
           exit-same (d .4) (d .5) (d .6) (d .7) (visit-ended (cut-noted w o is (d .3 .ensures .1) (dead ∙ d .0 .left) ended (d .3 .ensures .0)) ended)))
           (c .if2 .came),
@@ -296,7 +311,8 @@ walk-returns-3 : (t : ℕ) → walk-lts.Need-returns-3 (claims t) (walk-at t) wa
 walk-returns-3 t c =
     let k = c .before in
     let r = (loop-begin t k) .pre .1 in
-    (loop-end r (k .loop .inv .1) (omega (arith, k .before .small .ensures .0, c .loop-test .left)), k .loop .inv .1 .counted)
+    let ends = loop-end r (k .loop .inv .1) (omega (arith, k .before .exit-count .ensures .0, c .loop-test .left)) in
+    (ends, (k .loop .inv .1 .counted, ends-steps r ends))
 
 pub +walk-spec : {M : Type 1} → statement M
 +walk-spec = close μ-walk λ t. walk-lts.spec (claims t)
@@ -307,18 +323,16 @@ pub +walk-spec : {M : Type 1} → statement M
     (walk-add-of-whole t)
     (walk-of-whole-requires t)
     (walk-no-cache-requires t)
-    (walk-element-copy-out-small t)
-    (walk-small-requires t)
+    (walk-exit-count-requires t)
     (walk-loop-holds t)
     (walk-with-step-requires t)
     (walk-returns t)
     (walk-exit-at-requires t)
     (walk-array-read-before t)
-    (walk-element-copy-out-judge t)
+    (walk-exit-count-requires-2 t)
     (walk-sub-judge t)
     (walk-judge-requires t)
     (walk-is-death-requires t)
-    (walk-wide-requires t)
     (walk-death-requires t)
     (walk-with-death-requires t)
     (walk-is-continued-requires t)

@@ -1,7 +1,7 @@
 -- `division::parted` meets its contract: the quotient times the divisor is at most the number, so it fits. Assumes nothing.
 use mathlib.Core.Path.{refl}
 use borrow.Author.Needs.{needs}
-use Rattle.figure.specs.Steps.{part}
+use Rattle.figure.specs.Internal.Steps.{part}
 use Rattle.figure.proofs.Parts.{part-fits}
 use Rattle.figure.proofs.division.parted.Statement.{statement}
 use Rattle.figure.proofs.division.parted.Tie as tie

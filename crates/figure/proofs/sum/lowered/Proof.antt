@@ -1,7 +1,7 @@
 -- `sum::lowered` meets its contract: past the table nothing of the number is left but that there was something. Assumes nothing.
 use mathlib.Core.Path.{_∙_, ap}
 use borrow.Author.Needs.{needs}
-use Rattle.figure.specs.Steps.{part}
+use Rattle.figure.specs.Internal.Steps.{part}
 use Rattle.figure.proofs.Scale.{pow-pos}
 use Rattle.figure.proofs.Sums.{far-part}
 use Rattle.figure.proofs.sum.lowered.Statement.{statement}

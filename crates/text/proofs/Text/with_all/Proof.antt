@@ -5,7 +5,7 @@ use native.Mathlib.Omega.{arith}
 use borrow.Author.Needs.{needs}
 use lib.ListN.{length, take}
 use lib.Seq.{take-all}
-use Rattle.text.specs.Written.{Added}
+use Rattle.text.specs.Internal.Growing.{Added}
 use Rattle.text.proofs.Pieces.{added-none, added-more, room-more}
 use Rattle.text.proofs.Text.with_all.Statement.{statement}
 use Rattle.text.proofs.Text.with_all.Tie as tie

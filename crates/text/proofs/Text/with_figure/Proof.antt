@@ -7,7 +7,7 @@ use lib.IntN.{ℤ, pos, _+ℤ_}
 use mir.Syntax.{w32}
 use mir.Val.{SFits}
 use mir.Facts.{toZ-ofZ}
-use Rattle.text.specs.Written.{Room}
+use Rattle.text.specs.Internal.Growing.{Room}
 use Rattle.text.proofs.Pieces.{added-then, room-first, room-then}
 use Rattle.text.proofs.Signed.{stored, stored-is}
 use Rattle.text.proofs.Figures.{first-digit, from-point, eight-digits, from-eight, from-E, from-exponent, zero-text, some-text}

@@ -3,7 +3,7 @@ use mathlib.Core.List.{[], _∷_}
 use lib.IntN.{natAbs}
 use borrow.Author.Needs.{needs}
 use Rattle.text.specs.Text.{decimal}
-use Rattle.text.specs.Written.{Room}
+use Rattle.text.specs.Internal.Growing.{Room}
 use Rattle.text.proofs.Pieces.{added-then, room-first, room-then}
 use Rattle.text.proofs.Signed.{stored-is}
 use Rattle.text.proofs.Figures.{with-minus, without-minus}

@@ -1,14 +1,9 @@
 -- `text::answers::answered` meets its contract: the answer to the words of the first 64,024 bytes is that to all of them. Assumes nothing.
-use Prim.Native.Nat.{ℕ}
-use mathlib.Core.Path.{_≡_, refl, sym, ap, _∙_}
-use mathlib.Core.List.{List}
+use mathlib.Core.Path.{refl, sym}
 use native.Mathlib.Omega.{arith}
 use borrow.Author.Needs.{needs}
 use lib.Seq.{length-take-le}
-use Rattle.tree.specs.Report.{answer}
-use Rattle.bounds.specs.Answers.{answer-of}
-use Rattle.text.specs.Bytes.{words-of}
-use Rattle.text.proofs.Words.{answer-enough}
+use Rattle.text.proofs.Words.{answer-enough, rule-enough}
 use Rattle.text.proofs.answers.answered.Statement.{statement}
 use Rattle.text.proofs.answers.answered.Tie as tie
 
@@ -18,27 +13,22 @@ words-of-requires c κs = search needs
 array-share-prefix-words : tie.Need-array-share-prefix-words
 array-share-prefix-words c = search needs
 
-slice-aggregate-unreliability : tie.Need-slice-aggregate-unreliability
-slice-aggregate-unreliability c =
+slice-aggregate-words-text : tie.Need-slice-aggregate-words-text
+slice-aggregate-words-text c =
     let s = c .before .words-of .ensures .0 in
     sym (length-take-le (c .before .words-of .result) (c .before .words-of .last .1 .0) (omega (arith, s .whole, s .within)))
 
-unreliability-requires : tie.Need-unreliability-requires
-unreliability-requires c κs = search needs
-
-answer-text-requires : tie.Need-answer-text-requires
-answer-text-requires c κs = search needs
+words-text-requires : tie.Need-words-text-requires
+words-text-requires c κs = search needs
 
 returns : tie.Need-returns
 returns c =
-    let u = c .before in
-    let w = u .before .before in
+    let w = c .before .before in
     let a = w .before .before .before .args in
-    let e : answer-of (u .unreliability .result) ≡ answer (words-of (a .bytes .now)) (a .budget) =
-    u .unreliability .ensures .answer-is
-    ∙ ap (λ (ws : List ℕ). answer ws (a .budget)) (w .words-of .ensures .0 .words-are)
-    ∙ sym (answer-enough (a .bytes .now) (a .budget)) in
-    (rw e at (c .answer-text .ensures), refl)
+    let e = w .words-of .ensures .0 .words-are in
+    let t = rw e at (c .words-text .ensures .0) in
+    let h = rw e at (c .words-text .ensures .1 .0) in
+    (rw (answer-enough (a .bytes .now) (a .budget)) t, (rule-enough (a .bytes .now) (a .budget) h, refl))
 
 pub answered-spec : {M : Type 1} → statement M
 answered-spec =
@@ -46,7 +36,6 @@ answered-spec =
     (tie.spec
     words-of-requires
     array-share-prefix-words
-    slice-aggregate-unreliability
-    unreliability-requires
-    answer-text-requires
+    slice-aggregate-words-text
+    words-text-requires
     returns)

@@ -1,7 +1,7 @@
 -- `text::answers::numbered` meets its contract: the line of the refusal, written from nothing. Assumes nothing.
 use mathlib.Core.List.{[], _∷_}
 use borrow.Author.Needs.{needs}
-use Rattle.model.specs.Reading.{refused}
+use Rattle.word.specs.Answer.{refused}
 use Rattle.text.specs.Text.{ascii, refusal-text, answer-text}
 use Rattle.text.proofs.Pieces.{RoomForThree, added-three, room-one, room-two, room-three, room-all, holds-all}
 use Rattle.text.proofs.Lengths.{answer-short}

@@ -1,6 +1,6 @@
 -- `text::answers::report_text` meets its contract: the figures' lines and the counts', written from nothing. Assumes nothing.
 use borrow.Author.Needs.{needs}
-use Rattle.model.specs.Reading.{granted}
+use Rattle.word.specs.Answer.{granted}
 use Rattle.bounds.specs.Answers.{report-of}
 use Rattle.text.specs.Text.{figure-lines, count-lines, answer-text}
 use Rattle.text.proofs.Pieces.{added-then, room-first, room-then, room-all, holds-all}

@@ -1,0 +1,134 @@
+//! Options and files of a subcommand.
+
+use crate::Failure;
+
+/// What a subcommand takes: options without a value, options with one, and the names of what stands without an option.
+pub struct Takes {
+    pub flags: &'static [&'static str],
+    pub values: &'static [&'static str],
+    pub files: &'static [&'static str],
+}
+
+/// What a subcommand was given.
+pub struct Arguments<'a> {
+    pub files: Vec<&'a str>,
+    options: Vec<(&'a str, &'a str)>,
+}
+
+impl Takes {
+    /// The arguments, all of which the subcommand knows. `--name value` and `--name=value` are the same.
+    pub fn parse<'a>(&self, given: &[&'a str]) -> Result<Arguments<'a>, Failure> {
+        let mut arguments = Arguments { files: Vec::new(), options: Vec::new() };
+        let mut rest = given.iter();
+        while let Some(&argument) = rest.next() {
+            let Some(option) = argument.strip_prefix("--") else {
+                arguments.files.push(argument);
+                continue;
+            };
+            let (name, inside) = match option.split_once('=') {
+                Some((name, value)) => (name, Some(value)),
+                None => (option, None),
+            };
+            let value = if self.values.contains(&name) {
+                let next = inside.or_else(|| rest.next().copied());
+                next.ok_or_else(|| Failure::new(format!("--{name} takes a value")))?
+            } else if self.flags.contains(&name) && inside.is_none() {
+                ""
+            } else {
+                return Err(Failure::new(format!("{argument} is no option; {}", self.known())));
+            };
+            if arguments.value(name).is_some() {
+                return Err(Failure::new(format!("--{name} stands twice")));
+            }
+            arguments.options.push((name, value));
+        }
+        if arguments.files.len() != self.files.len() {
+            let expected =
+                if self.files.is_empty() { "nothing".into() } else { self.files.join(" ") };
+            return Err(Failure::new(format!(
+                "expected {expected} beside the options, not {}",
+                if arguments.files.is_empty() {
+                    "nothing".into()
+                } else {
+                    arguments.files.join(" ")
+                }
+            )));
+        }
+        Ok(arguments)
+    }
+
+    fn known(&self) -> String {
+        let names: Vec<String> =
+            self.flags.iter().chain(self.values).map(|n| format!("--{n}")).collect();
+        if names.is_empty() {
+            "there are none".into()
+        } else {
+            format!("there are {}", names.join(", "))
+        }
+    }
+}
+
+impl<'a> Arguments<'a> {
+    pub fn flag(&self, name: &str) -> bool {
+        self.value(name).is_some()
+    }
+
+    pub fn value(&self, name: &str) -> Option<&'a str> {
+        self.options.iter().find(|(given, _)| *given == name).map(|(_, value)| *value)
+    }
+
+    /// The budget, or 1,000,000. The library says which are allowed.
+    pub fn budget(&self) -> Result<u64, Failure> {
+        let Some(spelled) = self.value("budget") else {
+            return Ok(bounds::MOST_BUDGET);
+        };
+        whole_number(spelled).ok_or_else(|| {
+            Failure::new(format!("--budget {spelled}: expected a whole number, such as 1000000"))
+        })
+    }
+}
+
+/// A number of decimal digits alone that fits 64 bits.
+pub fn whole_number(spelled: &str) -> Option<u64> {
+    if spelled.bytes().all(|b| b.is_ascii_digit()) {
+        spelled.parse().ok()
+    } else {
+        None
+    }
+}
+
+#[cfg(test)]
+mod tests {
+    use super::*;
+
+    const TAKES: Takes = Takes { flags: &["json"], values: &["budget"], files: &["FILE"] };
+
+    #[test]
+    fn options_and_files() -> Result<(), Failure> {
+        let a = TAKES.parse(&["--json", "a.txt", "--budget", "7"])?;
+        assert_eq!((a.files[0], a.flag("json"), a.budget()?), ("a.txt", true, 7));
+        let a = TAKES.parse(&["-", "--budget=8"])?;
+        assert_eq!((a.files[0], a.flag("json"), a.budget()?), ("-", false, 8));
+        assert_eq!(TAKES.parse(&["a"])?.budget()?, 1_000_000);
+        Ok(())
+    }
+
+    #[test]
+    fn what_is_not_known() {
+        for given in [
+            &["a", "--yaml"][..],
+            &["a", "--json=1"],
+            &["a", "--json", "--json"],
+            &["a", "--budget"],
+            &["a", "b"],
+            &[],
+        ] {
+            assert!(TAKES.parse(given).is_err(), "{given:?}");
+        }
+        for budget in ["", "x", "-1", "+1", "1e3", "18446744073709551616"] {
+            let given = ["a", "--budget", budget];
+            let budget = TAKES.parse(&given).and_then(|a| a.budget());
+            assert!(budget.is_err(), "{given:?}");
+        }
+    }
+}

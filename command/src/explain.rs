@@ -1,0 +1,62 @@
+//! A refusal for whoever can mend it: the sentence, the lines that it speaks of, and what to look at.
+
+use crate::input::{Model, Spot};
+use crate::json;
+use crate::model::kind;
+use bounds::{Place, Reason, Refusal};
+
+/// The places in the file that a refusal speaks of, if there are any.
+pub fn spots(model: &Model, refusal: Refusal) -> Vec<Spot> {
+    match (refusal.reason.place(), refusal.reason) {
+        (Place::Word, _) => {
+            usize::try_from(refusal.place).ok().and_then(|at| model.spot(at)).into_iter().collect()
+        }
+        (Place::State, Reason::StartWithoutExits) => model.start().into_iter().collect(),
+        (Place::State, _) => fast_exits(model, refusal.place),
+        _ => Vec::new(),
+    }
+}
+
+/// The fast transitions out of a state.
+fn fast_exits(model: &Model, state: u64) -> Vec<Spot> {
+    let leaves = |word: u32| word >> 28 == kind::FAST && u64::from(word >> 12 & 0xFFF) == state;
+    let places = model.words.iter().enumerate().filter(|(_, word)| leaves(**word));
+    places.filter_map(|(at, _)| model.spot(at)).collect()
+}
+
+/// Lines to be read.
+pub fn text(model: &Model, refusal: Refusal) -> String {
+    let mut lines = vec![refusal.to_string(), refusal.sentence().to_string()];
+    for spot in spots(model, refusal) {
+        lines.push(match spot {
+            Spot::Line(line, text) => format!("  {}:{line}: {text}", model.file),
+            Spot::Word(at, word) => format!("  {}: word {at}: {word:08X}", model.file),
+        });
+    }
+    lines.push(format!("Look at: {}", refusal.reason.advice()));
+    lines.join("\n")
+}
+
+/// The same for programs.
+pub fn object(model: &Model, refusal: Refusal) -> String {
+    let spots: Vec<String> = spots(model, refusal)
+        .into_iter()
+        .map(|spot| match spot {
+            Spot::Line(line, text) => {
+                json::object(&[("line", line.to_string()), ("text", json::string(&text))])
+            }
+            Spot::Word(at, word) => json::object(&[
+                ("word", at.to_string()),
+                ("text", json::string(&format!("{word:08X}"))),
+            ]),
+        })
+        .collect();
+    json::object(&[
+        ("answer", json::string("refused")),
+        ("number", refusal.reason.number().to_string()),
+        ("place", refusal.place.to_string()),
+        ("sentence", json::string(&refusal.sentence().to_string())),
+        ("spots", json::array(&spots)),
+        ("advice", json::string(refusal.reason.advice())),
+    ])
+}

@@ -1,0 +1,150 @@
+//! `bounds answers`: cases from standard input, one a line, and each one's answer. A tool is a module and its entry in the list.
+
+mod at_or_below;
+mod fields;
+mod report;
+
+use super::Subcommand;
+use crate::arguments::Takes;
+use crate::{Done, Failure, Status};
+use fields::Fields;
+use std::io::{self, BufRead, Write};
+
+pub const SUBCOMMAND: Subcommand = Subcommand {
+    name: "answers",
+    summary: "answers cases from standard input, one a line",
+    help: "usage: bounds answers
+
+Reads one case a line from standard input, and writes each answer and an empty line, at once, so that a program can talk to it over a pipe. A case
+is a tool's name and fields KEY=VALUE, each once and in any order, apart by one space. Numbers are decimal; words have eight hexadecimal digits each
+and stand apart by commas, with - at the end for left-over bytes; a figure is its digits, e and its power (999500000e-12; zero is 0e0).
+
+  report budget=N words=WORDS             what the report program prints
+  at-or-below figure=FIGURE limit=FIGURE  yes, no, or `no figure` where one of them is none
+
+A line that is no case is answered by `error: ` and what was expected, and the next line is read. Exit status: 0 when the input has ended, 2 where it
+cannot be read or the library is of another version.",
+    run,
+};
+
+const TAKES: Takes = Takes { flags: &[], values: &[], files: &[] };
+
+/// A tool: its name, the keys of its fields, and its answer, without a newline behind the last line.
+struct Tool {
+    name: &'static str,
+    keys: &'static [&'static str],
+    answer: fn(&Fields) -> Result<String, String>,
+}
+
+const TOOLS: &[Tool] = &[report::TOOL, at_or_below::TOOL];
+
+fn run(given: &[&str], out: &mut dyn Write) -> Done {
+    TAKES.parse(given)?;
+    answer_all(&mut io::stdin().lock(), out)
+}
+
+fn answer_all(input: &mut dyn BufRead, out: &mut dyn Write) -> Done {
+    let mut line = Vec::new();
+    loop {
+        line.clear();
+        let read = input.read_until(b'\n', &mut line);
+        if read.map_err(|error| Failure::in_file("standard input", error))? == 0 {
+            return Ok(Status::Reported);
+        }
+        let line = line.strip_suffix(b"\n").unwrap_or(&line);
+        let answer = answer(line).unwrap_or_else(|why| format!("error: {why}"));
+        write!(out, "{answer}\n\n")?;
+        out.flush()?;
+    }
+}
+
+fn answer(line: &[u8]) -> Result<String, String> {
+    let line = std::str::from_utf8(line).map_err(|_| "expected UTF-8")?;
+    let (name, rest) = match line.split_once(' ') {
+        Some((name, rest)) => (name, Some(rest)),
+        None => (line, None),
+    };
+    let tool = TOOLS.iter().find(|tool| tool.name == name).ok_or_else(|| {
+        let names: Vec<&str> = TOOLS.iter().map(|tool| tool.name).collect();
+        format!("{name:?} is no tool: expected {}", names.join(" or "))
+    })?;
+    (tool.answer)(&Fields::parse(rest, tool.keys)?)
+}
+
+#[cfg(test)]
+mod tests {
+    use super::*;
+
+    const CASE_A: &str = "report budget=1000000 words=11002001,2000000A,30000000,41801000,50001002,60400001,F0000000";
+    const REPORT_A: &str =
+        "lower 9.99500000E-4\nupper 1.00000000E-3\ncut 0\ndeaths 1\ncuts 0\nsteps 1";
+
+    fn answered(line: &str) -> String {
+        answer(line.as_bytes()).unwrap_or_else(|why| format!("error: {why}"))
+    }
+
+    #[test]
+    fn cases() {
+        assert_eq!(answered(CASE_A), REPORT_A);
+        assert_eq!(answered("report words= budget=7"), "refused 3 at 0");
+        assert_eq!(answered("report words=- budget=7"), "refused 3 at 0");
+        assert_eq!(answered(&format!("{CASE_A},-")), "refused 3 at 7");
+        assert_eq!(answered(&CASE_A.replace("1000000", "0")), "refused 2 at 0");
+        assert_eq!(answered(&CASE_A.replace("1000000", "18446744073709551615")), "refused 2 at 0");
+        assert_eq!(answered("at-or-below figure=999500000e-12 limit=100000000e-11"), "yes");
+        assert_eq!(answered("at-or-below figure=100000001e-11 limit=100000000e-11"), "no");
+        assert_eq!(answered("at-or-below figure=0e0 limit=0e0"), "yes");
+        assert_eq!(answered("at-or-below figure=123e0 limit=0e0"), "no figure");
+        assert_eq!(answered("at-or-below figure=0e0 limit=0e5"), "no figure");
+    }
+
+    #[test]
+    fn what_is_no_case() {
+        for line in [
+            "",
+            " ",
+            "report",
+            "report ",
+            "Report budget=1 words=",
+            "report budget=1",
+            "report words=",
+            "report budget=1 words= ",
+            "report  budget=1 words=",
+            "report budget=1 budget=1 words=",
+            "report budget=1 words= rows=3",
+            "report budget= words=",
+            "report budget=+1 words=",
+            "report budget=1e6 words=",
+            "report budget=18446744073709551616 words=",
+            "report budget=1 words=1100200",
+            "report budget=1 words=11002001,",
+            "report budget=1 words=11002001, 2000000A",
+            "report budget=1 words=-,11002001",
+            "report budget=1 words=11002001-",
+            "report budget=1 words=+1002001",
+            "why words= indexes=",
+            "at-or-below figure=1E-9 limit=0e0",
+            "at-or-below figure=1e-9.0 limit=0e0",
+            "at-or-below figure=-1e0 limit=0e0",
+            "at-or-below figure=1e2147483648 limit=0e0",
+            "at-or-below figure=1 limit=0e0",
+        ] {
+            assert!(answered(line).starts_with("error: "), "{line}");
+        }
+        assert!(answer(b"report\xff").is_err());
+    }
+
+    /// Each line has its answer and an empty line, one that is no case and a last one without a newline included.
+    #[test]
+    fn lines() -> Result<(), Failure> {
+        let mut out = Vec::new();
+        let input = format!("{CASE_A}\nno case\n{CASE_A}");
+        assert_eq!(answer_all(&mut input.as_bytes(), &mut out)?, Status::Reported);
+        let answers = String::from_utf8_lossy(&out);
+        let answers: Vec<&str> = answers.split("\n\n").collect();
+        assert_eq!(answers.len(), 4);
+        assert_eq!((answers[0], answers[2], answers[3]), (REPORT_A, REPORT_A, ""));
+        assert!(answers[1].starts_with("error: \"no\" is no tool"), "{}", answers[1]);
+        Ok(())
+    }
+}

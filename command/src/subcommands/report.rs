@@ -1,0 +1,80 @@
+//! `bounds report`: the report on a model, or the refusal explained.
+
+use super::Subcommand;
+use crate::arguments::{Arguments, Takes};
+use crate::input::{Form, Model};
+use crate::{explain, json, Done, Failure, Status};
+use bounds::{Error, Figure, Report};
+use std::io::Write;
+
+pub const SUBCOMMAND: Subcommand = Subcommand {
+    name: "report",
+    summary: "the report on a model, or why it is refused",
+    help: "usage: bounds report FILE [--budget N] [--at-most FIGURE] [--json] [--as lines|digits|bytes]
+
+Prints the report on a model: six lines as the report program prints them. A model that is refused is answered by the refusal, a sentence on it, the
+lines of the file that it speaks of, and what to look at.
+
+FILE              a model in readable lines, or its words as hexadecimal digits or as bytes; - is standard input
+--budget N        the most steps that the walk may take, 1 to 1,000,000; without it 1,000,000
+--at-most FIGURE  says whether upper is at or below a requirement, such as 1E-9: one line more
+--json            one object of JSON; figures are strings, since a number of JSON is read as a double, which may lie on the wrong side
+--as FORM         what the file is, where it is not to be recognised: lines, digits or bytes
+
+Exit status: 0 report, 1 refusal, 2 usage or input, 3 a report whose upper is above the requirement.",
+    run,
+};
+
+const TAKES: Takes =
+    Takes { flags: &["json"], values: &["budget", "at-most", "as"], files: &["FILE"] };
+
+fn run(given: &[&str], out: &mut dyn Write) -> Done {
+    let arguments = TAKES.parse(given)?;
+    let limit = limit(&arguments)?;
+    let budget = arguments.budget()?;
+    let model = Model::read(arguments.files[0], Form::named(arguments.value("as"))?)?;
+    let as_json = arguments.flag("json");
+    let report = match bounds::assess(&model.words, budget) {
+        Ok(report) => report,
+        Err(Error::Refused(refusal)) => {
+            let explained = if as_json { explain::object } else { explain::text };
+            writeln!(out, "{}", explained(&model, refusal))?;
+            return Ok(Status::Refused);
+        }
+        Err(error) => return Err(error.into()),
+    };
+    let meets = limit.map(|limit| report.upper.at_or_below(limit)).transpose()?;
+    if as_json {
+        writeln!(out, "{}", object(&report, meets))?;
+    } else {
+        write!(out, "{}", bounds::text(&model.words, budget)?)?;
+        if let (Some(limit), Some(meets)) = (limit, meets) {
+            writeln!(out, "at most {limit} {}", if meets { "yes" } else { "no" })?;
+        }
+    }
+    Ok(if meets == Some(false) { Status::AboveLimit } else { Status::Reported })
+}
+
+fn limit(arguments: &Arguments) -> Result<Option<Figure>, Failure> {
+    let Some(spelled) = arguments.value("at-most") else {
+        return Ok(None);
+    };
+    let limit =
+        spelled.parse().map_err(|why| Failure::new(format!("--at-most {spelled}: {why}")))?;
+    Ok(Some(limit))
+}
+
+fn object(report: &Report, meets: Option<bool>) -> String {
+    let figure = |figure: Figure| json::string(&figure.to_string());
+    let mut fields = vec![
+        ("answer", json::string("report")),
+        ("lower", figure(report.lower)),
+        ("upper", figure(report.upper)),
+        ("cut", figure(report.cut)),
+        ("deaths", report.deaths.to_string()),
+        ("cuts", report.cuts.to_string()),
+        ("steps", report.steps.to_string()),
+    ];
+    fields.extend(meets.map(|meets| ("meets", meets.to_string())));
+    json::object(&fields)
+}

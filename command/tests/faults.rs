@@ -1,0 +1,102 @@
+//! What is refused, and the line or the word that is named.
+
+use bounds_command::model::{text, words};
+
+const HEAD: &str = "states 3\nstart 1\ntime 10\nprune 0\nsteps 24\nentries 1\n";
+
+/// The line that a text is refused at, or 0.
+fn line(text: &str) -> usize {
+    text::words_of(text).err().map_or(0, |fault| fault.at)
+}
+
+#[test]
+fn lines() {
+    assert_eq!(line(HEAD), 0);
+    for (rest, at) in [
+        ("slow 1 2 1e-4\n", 0),
+        ("slow 1 2 1e-4 # a comment\n\n  \t\nslow 2 3 2e-4", 0),
+        ("slow 1 2 1.2345678e-4\n", 7),
+        ("slow 1 2 1e-4\nslow 2 3 1e-21\n", 8),
+        ("slow 1 2 0\n", 7),
+        ("slow 1 4 1e-4\n", 7),
+        ("slow 0 2 1e-4\n", 7),
+        ("slow 1 2\n", 7),
+        ("slow 1 2 1e-4 1e-4\n", 7),
+        ("fast 1 2 1e-4 1e-4\n", 7),
+        ("fast 1 2 1e-4 0 1\n", 0),
+        ("fast 1 2 1e-4 0 0.3333333\n", 7),
+        ("fast 1 2 1e-4 0 1e-13\n", 7),
+        ("slow 1 2 1e-4\nprune 0\n", 8),
+        ("states 3\n", 7),
+        ("medium 1 2 1e-4\n", 7),
+        ("slow +1 2 1e-4\n", 7),
+    ] {
+        assert_eq!(line(&format!("{HEAD}{rest}")), at, "{rest}");
+    }
+}
+
+#[test]
+fn head_lines() {
+    assert_eq!(line(""), 1);
+    assert_eq!(line("states 3\nslow 1 2 1e-4\n"), 2);
+    for (old, new, at) in [
+        ("states 3", "states 1001", 1),
+        ("states 3", "states 0", 1),
+        ("start 1", "start 4", 2),
+        ("time 10", "time 0", 3),
+        ("prune 0", "prune 1234567", 4),
+        ("steps 24", "steps 25", 5),
+        ("entries 1", "entries 0", 6),
+        ("entries 1", "entries 1 2", 6),
+        ("entries 1", "", 6),
+        ("entries 1", "edition 16", 6),
+        ("states 3", "states 4294967297", 1),
+    ] {
+        assert_eq!(line(&HEAD.replace(old, new)), at, "{new}");
+    }
+}
+
+#[test]
+fn the_line_of_a_word() -> Result<(), bounds_command::model::Fault> {
+    let written = text::words_of(&format!("{HEAD}slow 1 2 1e-4\n# rest\nfast 2 3 1e-4 0 1\n"))?;
+    assert_eq!(written.lines, [1, 3, 4, 5, 7, 7, 9, 9, 9, 9, 9]);
+    Ok(())
+}
+
+#[test]
+fn words_that_no_lines_spell() {
+    let model =
+        [0x11002001, 0x2000000A, 0x30000000, 0x41801000, 0x50001002, 0x60400001, 0xF0000000];
+    assert!(words::text_of(&model).is_ok());
+    let place = |at: usize, word: u32| {
+        let mut changed = model.to_vec();
+        changed[at] = word;
+        words::text_of(&changed).err().map(|fault| fault.at)
+    };
+    assert_eq!(place(0, 0x11002003), Some(0));
+    assert_eq!(place(0, 0x10002001), None);
+    assert_eq!(place(1, 0x20000000), Some(1));
+    assert_eq!(place(1, 0x21500001), Some(1));
+    assert_eq!(place(2, 0x300F4240), Some(2));
+    assert_eq!(place(3, 0x41801001), Some(3));
+    assert_eq!(place(4, 0x51001002), Some(4));
+    assert_eq!(place(4, 0x50001003), Some(4));
+    assert_eq!(place(5, 0x80400001), Some(5));
+    assert_eq!(place(6, 0xF0000001), Some(6));
+    assert_eq!(words::text_of(&model[..6]).err().map(|fault| fault.at), Some(6));
+    assert_eq!(words::text_of(&[]).err().map(|fault| fault.at), Some(0));
+    let mut longer = model.to_vec();
+    longer.push(0);
+    assert_eq!(words::text_of(&longer).err().map(|fault| fault.at), Some(7));
+}
+
+#[test]
+fn bytes_and_digits() -> Result<(), bounds_command::model::Fault> {
+    let list = [0x11002001, 0xF0000000];
+    assert_eq!(words::bytes_of(&list), [0x01, 0x20, 0x00, 0x11, 0, 0, 0, 0xF0]);
+    assert_eq!(words::of_digits(&words::hex_of(&list))?, (list.to_vec(), vec![1, 2]));
+    for (digits, line) in [("1100200", 1), ("+1002001", 1), ("11002001\n\n110020010", 3)] {
+        assert_eq!(words::of_digits(digits).err().map(|fault| fault.at), Some(line), "{digits}");
+    }
+    Ok(())
+}

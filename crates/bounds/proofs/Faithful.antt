@@ -1,0 +1,13 @@
+-- The definitions are what document 01 says of them: the laws of every layer. Assumes nothing.
+use Rattle.figure.proofs.Faithful.{faithful-figures}
+use Rattle.model.proofs.Numbers.{reason-refuses, refusal-reason}
+use Rattle.tree.proofs.Faithful.{faithful-tree}
+use Rattle.bounds.specs.Faithful.{Faithful}
+
+pub faithful : Faithful
+faithful = record {
+  figures = faithful-figures;
+  reason-is-refused = reason-refuses;
+  refusal-has-reason = refusal-reason;
+  tree = faithful-tree;
+}

@@ -1,0 +1,140 @@
+-- Before the walk: an accepted reading describes a valid model, and what is made of its first four words lets the table be filled and the walk
+-- begin at the start. Assumes nothing.
+use Prim.Native.Nat.{ℕ, _+_, _≤_, _<_}
+use mathlib.Core.Path.{_≡_, refl, sym, ap, ap₂, _∙_, subst}
+use mathlib.Core.List.{List}
+use native.Mathlib.Omega.{arith}
+use native.Mathlib.Nat.{le-trans, add-zero, zero-add}
+use lib.Dec.{lit≤}
+use lib.ListN.{length, set, replicate}
+use Rattle.figure.specs.declared.Figure.{Figure}
+use Rattle.figure.specs.Operations.{of-whole}
+use Rattle.word.specs.declared.Refusal.{Refusal}
+use Rattle.word.specs.Model.{Model}
+use Rattle.word.specs.Answer as answers
+use Rattle.model.specs.declared.Accepted.{Accepted}
+use Rattle.model.specs.declared.Reading.{Reading}
+use Rattle.model.specs.declared.Reading.the-variants.{Accepted as accepted, Refused as refusal}
+use Rattle.model.specs.Reading as reading
+use Rattle.model.specs.Promise.{summary, Accepts, Refuses, Answers}
+use Rattle.model.specs.Index.{Indexed}
+use Rattle.model.specs.Internal.Valid.{Valid}
+use Rattle.model.proofs.ReadValid.{read-valid}
+use Rattle.model.proofs.Refusals.{read-reads, read-budget}
+use Rattle.tree.specs.States.{figure-of}
+use Rattle.tree.specs.Tree.{tree, Visit}
+use Rattle.tree.specs.Internal.Carried.{at-start}
+use Rattle.tree.proofs.Carried.{start-carries, carried-tree}
+use Rattle.tree.proofs.Ranges.{total-none}
+use Rattle.tables.specs.Internal.Described.{Indexes, described}
+use Rattle.tables.specs.Internal.Tables.{Tabled}
+use Rattle.bounds.specs.declared.walk.Task.{Task}
+use Rattle.bounds.specs.declared.exits.Tip.{Tip}
+use Rattle.bounds.specs.declared.totals.Totals.{Totals}
+use Rattle.bounds.specs.Internal.Lent.{lent}
+use Rattle.bounds.specs.Internal.Paths.{path-of}
+use Rattle.bounds.specs.Internal.Totals.{Counted, nothing-yet}
+use Rattle.bounds.specs.Internal.Walk.{Asked, asked, carried-in, carried-of, visits-from, visits-beyond, Ready, Ends, EndsOver, WalkedTree}
+
+-- ---- an accepted reading
+
+module _ {ws index : List ℕ} {budget : ℕ} {r : Reading} (answer : Answers ws budget index r) where
+  pub accepts-of : {a : Accepted} → r ≡ accepted a → Accepts ws budget index a
+  accepts-of e = subst (Answers ws budget index) e answer
+
+  pub refuses-of : {f : Refusal} → r ≡ refusal f → Refuses ws budget index f
+  refuses-of e = subst (Answers ws budget index) e answer
+
+module _ {ws index : List ℕ} {budget : ℕ} {a : Accepted} (accepts : Accepts ws budget index a) where
+  described-is : described ws ≡ accepts .model
+  unfolding described
+  described-is = rw (read-reads ws budget (accepts .model) (accepts .reads)) refl
+
+  pub reads-described : reading.read ws budget ≡ answers.granted (described ws)
+  reads-described = accepts .reads ∙ ap answers.granted (sym described-is)
+
+  pub accepted-indexes : Indexes ws index
+  accepted-indexes = record {
+    valid = subst Valid (sym described-is) (read-valid ws budget (accepts .model) (accepts .reads));
+    indexed = subst (λ (x : Model). Indexed x ws index) (sym described-is) (accepts .indexed);
+  }
+
+  pub accepted-summary : a ≡ summary (described ws)
+  accepted-summary = accepts .fields ∙ ap summary (sym described-is)
+
+  pub accepted-budget : budget ≤ 1000000
+  accepted-budget = read-budget ws budget (accepts .model) (accepts .reads) .1
+
+-- ---- what the first four words give
+
+nothing-counted : Counted nothing-yet
+nothing-counted = record { lower = total-none; died = total-none; cut = total-none; deaths = omega arith; cuts = omega arith }
+
+module _ {ws index : List ℕ} (indexes : Indexes ws index) {a : Accepted} (is : a ≡ summary (described ws)) where
+  abbrev m : Model
+  m = described ws
+
+  pub start-below : a .start < 1001
+  start-below =
+      let e : a .start ≡ m .net .start = ap (λ (x : Accepted). x .start) is in
+      omega (arith, e, indexes .valid .start-high, indexes .valid .states-high)
+
+  pub time-scale : a .time .scale ≤ 255
+  time-scale = rw is (le-trans (indexes .valid .time .scale) (lit≤ tt))
+
+  pub prune-scale : a .prune .scale ≤ 255
+  prune-scale = rw is (le-trans (indexes .valid .prune .scale) (lit≤ tt))
+
+  -- the table is filled: the walk may begin at the start
+  module _ {table : List ℕ} (tabled : Tabled ws table) {time level u : Figure} (time-is : time ≡ figure-of (a .time))
+      (level-is : level ≡ figure-of (a .prune)) (one : u ≡ of-whole 1) (budget : ℕ) (few : budget ≤ 1000000) where
+    abbrev task : Task
+    task = record { time = time; level = level; «entry_limit» = a .«entry_limit»; budget = budget }
+
+    abbrev tip : Tip
+    tip = record { state = a .start; upper = u; ones = 0; len = 0 }
+
+    abbrev entered : List ℕ
+    entered = set (replicate 1001 0) (a .start) 1
+
+    at-the-start : (path : List ℕ) → carried-of (m .net) path tip entered ≡ at-start (m .net)
+    unfolding at-start path-of
+    at-the-start path = rw (one, is) refl
+
+    module _ (path : List ℕ) {totals : Totals} (none-yet : totals ≡ nothing-yet) where
+      abbrev first : Asked
+      first = asked task tip (a .«step_limit») entered path totals
+
+      pub walk-ready : Ready (lent ws index table) first
+      walk-ready = record {
+        filled = record { indexes = indexes; tabled = tabled };
+        task-is = record {
+          time-is = time-is ∙ ap (λ (x : Accepted). figure-of (x .time)) is;
+          level-is = level-is ∙ ap (λ (x : Accepted). figure-of (x .prune)) is;
+          entry-limit-is = ap (λ (x : Accepted). x .«entry_limit») is;
+          budget-high = few;
+        };
+        known = record { short = omega arith; inside = λ i h. absurd (omega arith) };
+        carries = rw (at-the-start path) (start-carries (m .net) (omega (arith, indexes .valid .start-high, indexes .valid .states-high)));
+        state-low = rw is (indexes .valid .start-low);
+        state-high = rw is (indexes .valid .start-high);
+        depth = add-zero (a .«step_limit») ∙ ap (λ (x : Accepted). x .«step_limit») is;
+        more = rw is (indexes .valid .steps-low);
+        counted = rw none-yet nothing-counted;
+        within = rw none-yet (omega arith);
+      }
+
+      -- and the walk from there is the one over the tree
+      pub walk-tree : {r : Totals} → Ends (lent ws index table) first r → WalkedTree ws budget r
+      walk-tree {r} ends =
+          let e : visits-from (lent ws index table) (a .«step_limit») (carried-in (lent ws index table) first) ≡ tree (m .net) (m .limits) =
+          ap₂ (visits-from (lent ws index table)) (ap (λ (x : Accepted). x .«step_limit») is) (at-the-start path) ∙ carried-tree m (indexes .valid) in
+          subst (λ (w : Totals). EndsOver (m .net) budget w (tree (m .net) (m .limits)) r) none-yet
+          (subst (λ (vs : List Visit). EndsOver (m .net) budget totals vs r) e ends)
+
+      -- its steps are the tree's
+      pub walk-steps : {n : ℕ} → (n ≤ budget → n ≡ totals .steps + length (visits-beyond (lent ws index table) first))
+          → n ≤ budget → n ≡ length (tree (m .net) (m .limits))
+      unfolding path-of tree
+      walk-steps {n} h within =
+          h within ∙ rw (none-yet, is) (zero-add _)

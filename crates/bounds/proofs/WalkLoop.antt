@@ -1,0 +1,157 @@
+-- What the walk's loop keeps at each exit of a state: it begins, it ends after the last exit or past the budget, and each exit may be read.
+-- Assumes nothing.
+use Prim.Native.Nat.{ℕ, suc, _+_, _-_, _≤_, _<_}
+use mathlib.Core.Path.{_≡_, refl, sym, ap, _∙_, subst}
+use mathlib.Core.Bool.{Bool, true, false, true≢false}
+use mathlib.Core.List.{List}
+use native.Mathlib.Omega.{arith}
+use lib.Dec.{ltb, lit≤}
+use lib.ListN.{length}
+use borrow.Author.Tests.{lt-ltb, le-ltb}
+use Rattle.figure.proofs.Sized.{sized-≤}
+use Rattle.word.specs.Model.{exits}
+use Rattle.model.specs.Internal.Valid.{Valid}
+use Rattle.model.specs.Index.{exit-count}
+use Rattle.model.proofs.Slots.{counts-few, slot-below, slot-leaves}
+use Rattle.tree.proofs.Positive.{ValidSteps}
+use Rattle.tree.proofs.Ranges.{any-upper-sized, class1-count-≤}
+use Rattle.tree.specs.Internal.Tally.{with-step}
+use Rattle.tree.specs.Internal.Carried.{Carried}
+use Rattle.tree.proofs.Tally.{tally-steps}
+use Rattle.tree.proofs.Carried.{rest, carried-is, valid-known}
+use Rattle.tree.specs.Internal.Going.{Walked}
+use Rattle.tree.proofs.Going.{Going, exits-start, exits-end, exit-over}
+use Rattle.bounds.specs.declared.totals.Totals.{Totals}
+use Rattle.bounds.specs.declared.deaths.Cache.{Cache}
+use Rattle.bounds.specs.Internal.Lent.{Lent, model-in, net-in, limits-in}
+use Rattle.bounds.specs.Internal.Paths.{path-of}
+use Rattle.bounds.specs.Internal.Totals.{totals-of, Counted}
+use Rattle.bounds.specs.Internal.Exits.{ExitReady}
+use Rattle.bounds.specs.Internal.Deaths.{Cached}
+use Rattle.bounds.specs.Internal.Walk.{Asked, carried-in, Ready, Ends, visits-from, visits-beyond}
+use Rattle.bounds.proofs.PathSums.{path-length, path-valid}
+use Rattle.bounds.proofs.PathArrays.{SameBelow}
+
+-- what the loop holds at exit i: the entry counts, the path, the totals so far and the cache
+pub record Held : Type 0 where
+  pub i : ℕ
+  pub entered : List ℕ
+  pub taken : List ℕ
+  pub sums : Totals
+  pub cache : Cache
+
+abbrev pub held : ℕ → List ℕ → List ℕ → Totals → Cache → Held
+held i entered taken sums cache = record { i = i; entered = entered; taken = taken; sums = sums; cache = cache }
+
+-- At exit i: the entry counts are set back, the path in the array is as it was up to the tip, and the totals so far, with the visits still to
+-- make, come to the totals of all.
+pub record AtExit (l : Lent) (a : Asked) (h : Held) : Type 0 where
+  pub set-back : h .entered ≡ a .entered
+  pub size : length (h .taken) ≡ 24
+  pub same : SameBelow (a .tip .len) (h .taken) (a .path)
+  pub cached : Cached (net-in l) (path-of (net-in l) (a .path) (a .tip .len)) (a .tip .state) (h .cache)
+  pub counted : Counted (h .sums)
+  pub going : Going (net-in l) (a .task .budget) (totals-of (a .totals)) (visits-from l (suc (a .left - 1)) (carried-in l a))
+      (rest (net-in l) (limits-in l) (a .left - 1) (carried-in l a) (h .i)) (totals-of (h .sums))
+
+pub exit-same : {l : Lent} {a : Asked} {i : ℕ} {entered taken f k : List ℕ} {sums r : Totals} {cache c : Cache}
+    → f ≡ entered → k ≡ taken → r ≡ sums → c ≡ cache → AtExit l a (held i entered taken sums cache) → AtExit l a (held i f k r c)
+exit-same p q r s h = rw (p, q, r, s) h
+
+module _ {l : Lent} {a : Asked} (ready : Ready l a) where
+  abbrev here : Carried
+  here = carried-in l a
+
+  abbrev valid : Valid (model-in l)
+  valid = ready .filled .indexes .valid
+
+  pub state-small : a .tip .state ≤ 1000
+  state-small = omega (arith, ready .state-high, valid .states-high)
+
+  pub room : a .tip .len < 24
+  room = omega (arith, ready .depth, ready .more, valid .steps-high)
+
+  -- ---- the path up to the tip
+
+  pub path-short : length (path-of (net-in l) (a .path) (a .tip .len)) < 24
+  path-short = omega (arith, path-length (net-in l) (a .path) (a .tip .len), room)
+
+  pub steps-valid : ValidSteps (path-of (net-in l) (a .path) (a .tip .len))
+  steps-valid = path-valid valid (a .path) (a .tip .len) (ready .known)
+
+  pub ones-few : a .tip .ones < 24
+  ones-few = omega (arith, ready .carries .ones, class1-count-≤ (net-in l) (path-of (net-in l) (a .path) (a .tip .len)), path-short)
+
+  -- ---- the exits of its last state
+
+  count-is : exit-count (l .index) (a .tip .state) ≡ length (exits (net-in l) (a .tip .state))
+  count-is = ready .filled .indexes .indexed .counts-are (a .tip .state) state-small
+
+  pub is-exit : {i : ℕ} → i < exit-count (l .index) (a .tip .state) → i < length (exits (net-in l) (a .tip .state))
+  is-exit h = omega (arith, count-is)
+
+  pub exit-ready : {i : ℕ} → i < exit-count (l .index) (a .tip .state) → ExitReady l (a .task .time) (a .tip) i
+  exit-ready {i} h =
+      let x = ready .filled .indexes .indexed in
+      record {
+        filled = ready .filled;
+        time-is = ready .task-is .time-is;
+        few = omega (arith, counts-few (model-in l) (l .words) (l .index) valid x (a .tip .state) state-small);
+        index = slot-below (model-in l) (l .words) (l .index) valid x (a .tip .state) i state-small h;
+        leaves = slot-leaves (model-in l) (l .words) (l .index) valid x (a .tip .state) i state-small h;
+        upper = rw (ready .carries .upper)
+            (sized-≤ (lit≤ tt) (any-upper-sized valid (path-of (net-in l) (a .path) (a .tip .len)) (omega (arith, path-short)) steps-valid));
+        ones = ones-few;
+        room = room;
+      }
+
+  -- ---- the loop begins and ends
+
+  pub loop-start : {cache : Cache} → length (a .path) ≡ 24
+      → Cached (net-in l) (path-of (net-in l) (a .path) (a .tip .len)) (a .tip .state) cache
+      → AtExit l a (held 0 (a .entered) (a .path) (a .totals) cache)
+  loop-start size known = record {
+    set-back = refl;
+    size = size;
+    same = λ n h. refl;
+    cached = known;
+    counted = ready .counted;
+    going = exits-start (net-in l) (limits-in l) (a .task .budget) (a .left - 1) here (totals-of (a .totals)) (ready .within);
+  }
+
+  -- the steps handed back tell whether they are past the budget
+  pub ends-by : (over : Bool) {r : Totals} → ltb (a .task .budget) (r .steps) ≡ over
+      → Walked (net-in l) (a .task .budget) (totals-of (a .totals)) (visits-from l (suc (a .left - 1)) here) over (totals-of r) → Ends l a r
+  ends-by over {r} o k =
+      let n : suc (a .left - 1) ≡ a .left = omega (arith, ready .more) in
+      subst (λ n. Walked (net-in l) (a .task .budget) (totals-of (a .totals)) (visits-from l n here) (ltb (a .task .budget) (r .steps)) (totals-of r)) n
+      (subst (λ b. Walked (net-in l) (a .task .budget) (totals-of (a .totals)) (visits-from l (suc (a .left - 1)) here) b (totals-of r)) (sym o) k)
+
+  -- where the budget was not passed, the steps are those of the cut tree beyond the path
+  pub ends-steps : {r : Totals} → Ends l a r → r .steps ≤ a .task .budget → r .steps ≡ a .totals .steps + length (visits-beyond l a)
+  ends-steps {r} ends within =
+      ap (λ t. t .steps) (ends .totals-are (le-ltb (a .task .budget) (r .steps) within))
+      ∙ tally-steps (net-in l) (totals-of (a .totals)) (visits-from l (a .left) here)
+      ∙ ap (λ vs. a .totals .steps + length vs)
+      (carried-is (net-in l) (limits-in l) (valid-known (model-in l) valid) (a .left) here (ready .carries)
+      (omega (arith, ready .depth, path-length (net-in l) (a .path) (a .tip .len))))
+
+  module _ {h : Held} (kept : AtExit l a h) where
+    pub steps-few : h .sums .steps ≤ 1000000
+    steps-few = omega (arith, kept .going .within, ready .task-is .budget-high)
+
+    pub loop-end : exit-count (l .index) (a .tip .state) ≤ h .i → Ends l a (h .sums)
+    loop-end all =
+        ends-by false (le-ltb (a .task .budget) (h .sums .steps) (kept .going .within))
+        (exits-end (net-in l) (limits-in l) (a .task .budget) (a .left - 1) here (totals-of (a .totals)) (h .i) (totals-of (h .sums))
+        (omega (arith, count-is)) (kept .going))
+
+    -- the budget is used up, and exit i is still to walk: one step more is counted
+    pub loop-over : h .i < exit-count (l .index) (a .tip .state) → h .sums .steps ≡ a .task .budget → {r : Totals}
+        → totals-of r ≡ with-step (totals-of (h .sums)) → Ends l a r
+    unfolding with-step
+    loop-over more full {r} is =
+        let k = exit-over (net-in l) (limits-in l) (a .task .budget) (a .left - 1) here (totals-of (a .totals)) (h .i) (totals-of (h .sums))
+        (is-exit more) (kept .going) full in
+        let one : r .steps ≡ h .sums .steps + 1 = ap (λ x. x .steps) is in
+        ends-by true (lt-ltb (a .task .budget) (r .steps) (omega arith)) (record { over-is = k .over-is; totals-are = λ z. absurd (true≢false z) })

@@ -1,0 +1,320 @@
+-- One turn of the walk's loop: the exit is read, the path through it judged and noted, and walked beyond if it is continued. Assumes nothing.
+use Prim.Native.Nat.{ℕ, _+_, _-_, _≤_, _<_}
+use mathlib.Core.Path.{_≡_, refl, sym, ap, ap₂, _∙_, subst}
+use mathlib.Core.Bool.{true, false}
+use mathlib.Core.List.{List, _∷_}
+use native.Mathlib.Omega.{arith}
+use native.Mathlib.Numerals.{add-one}
+use lib.Dec.{ltb, eqb, lit≤}
+use lib.ListN.{length, getD, set, length-set}
+use lib.Seq.{set-set, set-getD}
+use borrow.Author.Tests.{lt-ltb, le-ltb}
+use Rattle.figure.specs.declared.Figure.{Figure}
+use Rattle.figure.specs.Rounding.{IsFigure}
+use Rattle.figure.specs.Operands.{Sized}
+use Rattle.figure.proofs.Sized.{sized-≤}
+use Rattle.word.specs.Model.{Transition, Net, is-empty, exits}
+use Rattle.word.specs.Internal.Lists.{Each}
+use Rattle.word.proofs.Members.{is-empty-length}
+use Rattle.model.specs.Index.{no-transition, transition, exit-count}
+use Rattle.model.specs.Internal.Valid.{ValidTransition, Valid}
+use Rattle.model.proofs.Slots.{slot-below, slot-exit, slot-leaves}
+use Rattle.tree.specs.Paths.{Path}
+use Rattle.tree.specs.Lower.{lower}
+use Rattle.tree.specs.Tree.{Outcome, is-death, is-continued}
+use Rattle.tree.proofs.Outcomes.{is-continued-true}
+use Rattle.tree.proofs.Ranges.{any-upper-sized, prune-sized}
+use Rattle.tree.specs.Internal.Tally.{with-step, with-cut, with-death, noted, with-visit}
+use Rattle.tree.specs.Internal.Carried.{Carried, Carries, carry, outcome-by, outcome-next}
+use Rattle.tree.proofs.Carried.{carry-upper, carry-carries, GoesOnBy, continued-by}
+use Rattle.tree.proofs.Going.{exit-totals, exit-within, exit-ended, exit-back, exit-below-over}
+use Rattle.tables.proofs.Classes.{step-valid}
+use Rattle.bounds.specs.declared.outcome.Outcome.{Outcome as Coded}
+use Rattle.bounds.specs.declared.totals.Totals.{Totals}
+use Rattle.bounds.specs.declared.deaths.Cache.{Cache}
+use Rattle.bounds.specs.declared.exits.Exit.{Exit}
+use Rattle.bounds.specs.Internal.Lent.{Lent, model-in, net-in, limits-in}
+use Rattle.bounds.specs.Internal.Paths.{path-of}
+use Rattle.bounds.specs.Internal.Totals.{totals-of, Counted}
+use Rattle.bounds.specs.Internal.Outcomes.{outcome-of, judged}
+use Rattle.bounds.specs.Internal.Exits.{tip-after, ExitOf}
+use Rattle.bounds.specs.Internal.Deaths.{LastStep, Cached}
+use Rattle.bounds.specs.Internal.Walk.{Asked, asked, carried-of, carried-in, Ready, Ends, EndsOver, visits-from}
+use Rattle.bounds.proofs.PathArrays.{below-same, path-longer, known-longer}
+use Rattle.bounds.proofs.TotalsNoted.{note-death, note-step, note-cut}
+use Rattle.bounds.proofs.WalkLoop.{Held, held, AtExit, state-small, room, path-short, steps-valid, is-exit, ends-by}
+
+module _ (l : Lent) (a : Asked) (h : Held) (x : Exit) where
+  -- exit i is there and was read, and the budget has room for a step
+  pub record Turn : Type 0 where
+    pub ready : Ready l a
+    pub kept : AtExit l a h
+    pub more : h .i < exit-count (l .index) (a .tip .state)
+    pub some : h .sums .steps ≡ a .task .budget → ⊥
+    pub exit : ExitOf l (a .tip) (h .i) x
+
+  -- the outcome that the path through it is judged to have
+  abbrev pub judged-there : Outcome
+  judged-there =
+      judged (exit-count (l .index) (x .tip .state)) (getD (h .entered) (x .tip .state) 0) (a .left - 1) (x .tip .upper) (a .task .level) (a .task .«entry_limit»)
+
+  -- the path up to the tip, and its lower with the exit
+  abbrev pub path-before : Path
+  path-before = path-of (net-in l) (a .path) (a .tip .len)
+
+  abbrev pub lower-there : Figure
+  lower-there = lower (net-in l) (transition (net-in l) (x .index) ∷ path-before)
+
+  -- the path through it was judged and noted
+  pub record Visited (o : Coded) (after : Totals) (cache : Cache) : Type 0 where
+    pub turn : Turn
+    pub judged-is : outcome-of o ≡ judged-there
+    pub totals-are : totals-of after ≡ noted (totals-of (h .sums)) (outcome-of o) lower-there (x .tip .upper)
+    pub cached : Cached (net-in l) path-before (a .tip .state) cache
+    pub counted : Counted after
+
+-- ---- the exit
+
+module _ {l : Lent} {a : Asked} {h : Held} {x : Exit} (w : Turn l a h x) where
+  abbrev net : Net
+  net = net-in l
+
+  abbrev here : Carried
+  here = carried-in l a
+
+  abbrev valid : Valid (model-in l)
+  valid = w .ready .filled .indexes .valid
+
+  -- the exit, by its place among the exits of its state
+  abbrev exit : Transition
+  exit = getD (exits net (a .tip .state)) (h .i) no-transition
+
+  abbrev next : Carried
+  next = carry net exit here
+
+  abbrev outcome-there : Outcome
+  outcome-there = outcome-next net (limits-in l) (a .left - 1) exit here
+
+  index-below : x .index < length (net .table)
+  index-below =
+      rw (w .exit .index-is)
+      (slot-below (model-in l) (l .words) (l .index) valid (w .ready .filled .indexes .indexed) (a .tip .state) (h .i) (state-small (w .ready)) (w .more))
+
+  exit-is : transition net (x .index) ≡ exit
+  exit-is =
+      ap (λ j. transition net j) (w .exit .index-is)
+      ∙ slot-exit (model-in l) (l .words) (l .index) valid (w .ready .filled .indexes .indexed) (a .tip .state) (h .i) (state-small (w .ready)) (w .more)
+
+  leaves : (transition net (x .index)) .from ≡ a .tip .state
+  leaves =
+      ap (λ j. (transition net j) .from) (w .exit .index-is)
+      ∙ slot-leaves (model-in l) (l .words) (l .index) valid (w .ready .filled .indexes .indexed) (a .tip .state) (h .i) (state-small (w .ready)) (w .more)
+
+  there : ValidTransition ((model-in l) .states) exit
+  there = subst (λ t. ValidTransition ((model-in l) .states) t) exit-is (step-valid valid index-below)
+
+  to-small : exit .to ≤ 1000
+  to-small = omega (arith, there .to-high, valid .states-high)
+
+  tip-is : x .tip ≡ tip-after net exit (a .tip)
+  tip-is = w .exit .tip-is ∙ ap (λ t. tip-after net t (a .tip)) exit-is
+
+  state-is : x .tip .state ≡ exit .to
+  unfolding tip-after
+  state-is = ap (λ r. r .state) tip-is
+
+  upper-is : x .tip .upper ≡ next .upper
+  unfolding tip-after carry
+  upper-is = ap (λ r. r .upper) tip-is
+
+  len-is : x .tip .len ≡ a .tip .len + 1
+  unfolding tip-after
+  len-is = ap (λ r. r .len) tip-is
+
+  pub there-small : x .tip .state ≤ 1000
+  there-small = omega (arith, state-is, to-small)
+
+  upper-sized : Sized 9 14000 (x .tip .upper)
+  unfolding Each
+  upper-sized =
+      rw (upper-is ∙ carry-upper net exit here to-small (w .ready .carries))
+      (any-upper-sized valid (exit ∷ path-before l a h x) (path-short (w .ready)) (there .manner, steps-valid (w .ready)))
+
+  pub judge-figures : IsFigure 9 (x .tip .upper) × IsFigure 9 (a .task .level)
+  judge-figures = (upper-sized .is-figure, rw (w .ready .task-is .level-is) ((prune-sized valid) .is-figure))
+
+  pub last-step : LastStep l (a .task .time) (a .path) (a .tip) x
+  last-step = record {
+    filled = w .ready .filled;
+    time-is = w .ready .task-is .time-is;
+    known = w .ready .known;
+    room = room (w .ready);
+    ones-are = w .ready .carries .ones;
+    index = index-below;
+    class-is = w .exit .class-is;
+    leaves = sym leaves;
+  }
+
+  pub note-figures : Counted (h .sums) × (h .sums .steps < 1000000) × Sized 9 35000 (x .tip .upper)
+  note-figures = (
+    w .kept .counted,
+    omega (arith, w .kept .going .within, w .some, w .ready .task-is .budget-high),
+    sized-≤ (lit≤ tt) upper-sized,
+  )
+
+  -- ---- the path through it is noted
+
+  module _ (o : Coded) (is : outcome-of o ≡ judged-there l a h x) {after : Totals} (counted : Counted after) where
+    noted-as : {cache : Cache} → totals-of after ≡ noted (totals-of (h .sums)) (outcome-of o) (lower-there l a h x) (x .tip .upper)
+        → Cached net (path-before l a h x) (a .tip .state) cache → Visited l a h x o after cache
+    noted-as more cached = record { turn = w; judged-is = is; totals-are = more; cached = cached; counted = counted }
+
+    -- as a death, of the lower f
+    pub death-noted : is-death (outcome-of o) ≡ true → {f : Figure} → f ≡ lower-there l a h x
+        → totals-of after ≡ with-death (totals-of (h .sums)) f (x .tip .upper)
+        → {cache : Cache} → Cached net (path-before l a h x) (a .tip .state) cache → Visited l a h x o after cache
+    death-noted on low more cached = noted-as (note-death _ _ _ _ more low on) cached
+
+    -- as a step that ends no path
+    pub step-noted : is-continued (outcome-of o) ≡ true → totals-of after ≡ with-step (totals-of (h .sums)) → Visited l a h x o after (h .cache)
+    step-noted on more = noted-as (note-step _ _ _ _ more on) (w .kept .cached)
+
+    -- as a cut
+    pub cut-noted : is-death (outcome-of o) ≡ false → is-continued (outcome-of o) ≡ false
+        → totals-of after ≡ with-cut (totals-of (h .sums)) (x .tip .upper) → Visited l a h x o after (h .cache)
+    cut-noted off ended more = noted-as (note-cut _ _ _ _ more off ended) (w .kept .cached)
+
+-- ---- the visit
+
+module _ {l : Lent} {a : Asked} {h : Held} {x : Exit} {o : Coded} {after : Totals} {cache : Cache} (v : Visited l a h x o after cache) where
+  abbrev w : Turn l a h x
+  w = v .turn
+
+  abbrev on-exit : h .i < length (exits (net w) (a .tip .state))
+  on-exit = is-exit (w .ready) (w .more)
+
+  same-exits : eqb (exit-count (l .index) (x .tip .state)) 0 ≡ is-empty (exits (net w) (exit w .to))
+  same-exits =
+      ap (λ k. eqb k 0) (w .ready .filled .indexes .indexed .counts-are (x .tip .state) (there-small w)
+      ∙ ap (λ s. length (exits (net w) s)) (state-is w))
+      ∙ sym (is-empty-length (exits (net w) (exit w .to)))
+
+  same-before : getD (h .entered) (x .tip .state) 0 ≡ getD (a .entered) (exit w .to) 0
+  same-before = ap₂ (λ k s. getD k s 0) (w .kept .set-back) (state-is w)
+
+  outcome-is : outcome-of o ≡ outcome-there w
+  unfolding judged outcome-by
+  outcome-is =
+      let p = same-exits in
+      let q = same-before in
+      let r = upper-is w in
+      let s = w .ready .task-is .entry-limit-is in
+      let u = w .ready .task-is .level-is in
+      cc (v .judged-is)
+
+  visit-is : totals-of after
+      ≡ with-visit (net w) (totals-of (h .sums)) (record { path = exit w ∷ path-before l a h x; outcome = outcome-there w })
+  visit-is =
+      v .totals-are
+      ∙ same
+      ∙ exit-totals (net w) (limits-in l) (a .task .budget) (a .left - 1) (here w) (totals-of (a .totals)) (h .i) (totals-of (h .sums)) on-exit
+      (w .kept .going) (to-small w) (w .ready .carries)
+    where
+      same : noted (totals-of (h .sums)) (outcome-of o) (lower-there l a h x) (x .tip .upper)
+          ≡ noted (totals-of (h .sums)) (outcome-there w) (lower (net w) (exit w ∷ path-before l a h x)) (next w .upper)
+      same =
+          let p = outcome-is in
+          let q = exit-is w in
+          let r = upper-is w in
+          cc
+
+  -- the path is ended
+  pub visit-ended : is-continued (outcome-of o) ≡ false → AtExit l a (held (h .i + 1) (h .entered) (h .taken) after cache)
+  visit-ended off = record {
+    set-back = w .kept .set-back;
+    size = w .kept .size;
+    same = w .kept .same;
+    cached = v .cached;
+    counted = v .counted;
+    going = rw (add-one (h .i)) (exit-ended (net w) (limits-in l) (a .task .budget) (a .left - 1) (here w) (totals-of (a .totals)) (h .i)
+        (totals-of (h .sums)) on-exit (w .kept .going) (totals-of after) visit-is (w .some) (ap is-continued (sym outcome-is) ∙ off));
+  }
+
+  -- the path goes on: its last state is entered once more, and its step is written down
+  module _ (on : is-continued (outcome-of o) ≡ true) where
+    goes-on : GoesOnBy (net w) (limits-in l) (a .left - 1) (exit w .to) (getD (a .entered) (exit w .to) 0) (next w .upper)
+    goes-on =
+        continued-by (net w) (limits-in l) (a .left - 1) (exit w .to) (getD (a .entered) (exit w .to) 0) (next w .upper)
+        (sym outcome-is ∙ is-continued-true (outcome-of o) on)
+
+    pub before-fits : getD (h .entered) (x .tip .state) 0 + 1 < 256
+    before-fits = omega (arith, same-before, goes-on .entered, (valid w) .entries-high)
+
+    abbrev entered-there : List ℕ
+    entered-there = set (h .entered) (x .tip .state) (getD (h .entered) (x .tip .state) 0 + 1)
+
+    abbrev taken-there : List ℕ
+    taken-there = set (h .taken) (a .tip .len) (x .index)
+
+    long : a .tip .len < length (h .taken)
+    long = omega (arith, room (w .ready), w .kept .size)
+
+    -- what the walk beyond is asked for
+    abbrev pub asked-there : Asked
+    asked-there = asked (a .task) (x .tip) (a .left - 1) entered-there taken-there after
+
+    deeper : carried-in l asked-there ≡ next w
+    unfolding tip-after carry
+    deeper =
+        ap₂ (λ r k. carried-of (net w) taken-there r (set k (r .state) (getD k (r .state) 0 + 1))) (tip-is w) (w .kept .set-back)
+        ∙ ap (λ p. record { path = p; state = next w .state; upper = next w .upper; ones = next w .ones; entered = next w .entered })
+        (path-longer (h .taken) (a .path) (a .tip .len) (x .index) (w .kept .same) (net w) long
+        ∙ ap (λ t. t ∷ path-before l a h x) (exit-is w))
+
+    pub ready-there : Ready l asked-there
+    ready-there = record {
+      filled = w .ready .filled;
+      task-is = w .ready .task-is;
+      known = rw (len-is w) (known-longer (h .taken) (a .path) (a .tip .len) (x .index) (w .kept .same) (net w) long (room (w .ready))
+          (index-below w) (w .ready .known));
+      carries = subst (λ k. Carries (net w) k) (sym deeper) (carry-carries (net w) (exit w) (here w) (to-small w) (w .ready .carries));
+      state-low = omega (arith, state-is w, there w .to-low);
+      state-high = omega (arith, state-is w, there w .to-high);
+      depth = omega (arith, len-is w, w .ready .depth, w .ready .more);
+      more = goes-on .left;
+      counted = v .counted;
+      within = exit-within (net w) (limits-in l) (a .task .budget) (a .left - 1) (here w) (totals-of (a .totals)) (h .i) (totals-of (h .sums)) on-exit
+          (w .kept .going) (totals-of after) visit-is (w .some);
+    }
+
+    continues : is-continued (outcome-there w) ≡ true
+    continues = ap is-continued (sym outcome-is) ∙ on
+
+    -- r is what the walk beyond hands back
+    module _ {r : Totals} (ends : Ends l asked-there r) where
+      beyond : EndsOver (net w) (a .task .budget) after (visits-from l (a .left - 1) (next w)) r
+      beyond = subst (λ k. EndsOver (net w) (a .task .budget) after (visits-from l (a .left - 1) k) r) deeper ends
+
+      pub visit-over : a .task .budget < r .steps → Ends l a r
+      visit-over past =
+          ends-by (w .ready) (ltb (a .task .budget) (r .steps)) refl
+          (exit-below-over (net w) (limits-in l) (a .task .budget) (a .left - 1) (here w) (totals-of (a .totals)) (h .i) (totals-of (h .sums)) on-exit
+          (w .kept .going) (totals-of after) visit-is (w .some) continues (ltb (a .task .budget) (r .steps)) (totals-of r) beyond
+          (lt-ltb (a .task .budget) (r .steps) past))
+
+      -- the entry count is set back
+      pub visit-back : Counted r → r .steps ≤ a .task .budget
+          → AtExit l a (held (h .i + 1) (set entered-there (x .tip .state) (getD (h .entered) (x .tip .state) 0)) taken-there r cache)
+      visit-back counted within = record {
+        set-back =
+            set-set (h .entered) (x .tip .state) (getD (h .entered) (x .tip .state) 0 + 1) (getD (h .entered) (x .tip .state) 0)
+            ∙ set-getD (h .entered) (x .tip .state) 0
+            ∙ w .kept .set-back;
+        size = length-set (h .taken) (a .tip .len) (x .index) ∙ w .kept .size;
+        same = below-same (h .taken) (a .path) (a .tip .len) (x .index) (w .kept .same);
+        cached = v .cached;
+        counted = counted;
+        going = rw (add-one (h .i)) (exit-back (net w) (limits-in l) (a .task .budget) (a .left - 1) (here w) (totals-of (a .totals)) (h .i)
+            (totals-of (h .sums)) on-exit (w .kept .going) (totals-of after) visit-is (w .some) continues (ltb (a .task .budget) (r .steps))
+            (totals-of r) beyond (le-ltb (a .task .budget) (r .steps) within));
+      }

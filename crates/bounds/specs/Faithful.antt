@@ -1,0 +1,14 @@
+-- What document 01 says in words, where the definitions compute: the statements of every layer, in one record. The contract of `unreliability`
+-- carries it, so that none of them can go missing. Assumes nothing: these are statements.
+use Rattle.figure.specs.Faithful.{FaithfulFigures}
+use Rattle.model.specs.Reasons.{ReasonIsRefused, RefusalHasReason}
+use Rattle.tree.specs.Faithful.{FaithfulTree}
+
+pub record Faithful : Type 0 where
+  -- figures and their rounding
+  pub figures : FaithfulFigures
+  -- "Each number is returned when its condition is the first to hold, and in no other event."
+  pub reason-is-refused : ReasonIsRefused
+  pub refusal-has-reason : RefusalHasReason
+  -- the cut tree, refusal 10, grains, divisors, models A to L
+  pub tree : FaithfulTree

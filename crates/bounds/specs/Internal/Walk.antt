@@ -1,0 +1,79 @@
+-- What the walk is asked for and hands back. Assumes nothing: these are definitions.
+use Prim.Native.Nat.{ℕ, _+_, _≤_, _<_}
+use mathlib.Core.Path.{_≡_}
+use mathlib.Core.List.{List}
+use lib.Dec.{ltb}
+use Rattle.word.specs.Model.{Net, Model}
+use Rattle.tree.specs.States.{mission-time, figure-of}
+use Rattle.tree.specs.Tree.{Visit, visits, tree}
+use Rattle.tree.specs.Internal.Carried.{Carried, Carries, carried-visits}
+use Rattle.tree.specs.Internal.Going.{Walked}
+use Rattle.tables.specs.Internal.Described.{described, net-of}
+use Rattle.bounds.specs.declared.walk.Task.{Task}
+use Rattle.bounds.specs.declared.exits.Tip.{Tip}
+use Rattle.bounds.specs.declared.totals.Totals.{Totals}
+use Rattle.bounds.specs.Internal.Lent.{Lent, Filled, model-in, net-in, limits-in}
+use Rattle.bounds.specs.Internal.Paths.{path-of, Known}
+use Rattle.bounds.specs.Internal.Totals.{totals-of, nothing-yet, Counted}
+
+-- What a walk is asked for: to go on from the tip, with so many steps left, the entry counts and the path up to the tip, and the totals so far.
+pub record Asked : Type 0 where
+  pub task : Task
+  pub tip : Tip
+  pub left : ℕ
+  pub entered : List ℕ
+  pub path : List ℕ
+  pub totals : Totals
+
+abbrev pub asked : Task → Tip → ℕ → List ℕ → List ℕ → Totals → Asked
+asked task tip left entered path totals =
+    record { task = task; tip = tip; left = left; entered = entered; path = path; totals = totals }
+
+-- a task is that of a model, with an allowed budget
+pub record TaskOf (m : Model) (t : Task) : Type 0 where
+  pub time-is : t .time ≡ mission-time (m .net)
+  pub level-is : t .level ≡ figure-of (m .limits .prune)
+  pub entry-limit-is : t .«entry_limit» ≡ m .limits .entry-limit
+  pub budget-high : t .budget ≤ 1000000
+
+-- what a walk carries
+abbrev pub carried-of : Net → List ℕ → Tip → List ℕ → Carried
+carried-of net path tip entered =
+    record { path = path-of net path (tip .len); state = tip .state; upper = tip .upper; ones = tip .ones; entered = entered }
+
+abbrev pub carried-in : Lent → Asked → Carried
+carried-in l a = carried-of (net-in l) (a .path) (a .tip) (a .entered)
+
+-- A walk may begin: the index and the table are filled, the task is the model's, and the tip, the entry counts and the path agree.
+pub record Ready (l : Lent) (a : Asked) : Type 0 where
+  pub filled : Filled l
+  pub task-is : TaskOf (model-in l) (a .task)
+  pub known : Known (net-in l) (a .path) (a .tip .len)
+  pub carries : Carries (net-in l) (carried-in l a)
+  pub state-low : 1 ≤ a .tip .state
+  pub state-high : a .tip .state ≤ (model-in l) .states
+  pub depth : a .left + a .tip .len ≡ (limits-in l) .step-limit
+  pub more : 0 < a .left
+  pub counted : Counted (a .totals)
+  pub within : a .totals .steps ≤ a .task .budget
+
+-- What a walk over some visits hands back, from the totals t on: where the budget has room for all of them, their totals; else totals whose steps
+-- are above the budget. The steps tell which.
+abbrev pub EndsOver : Net → ℕ → Totals → List Visit → Totals → Type 0
+EndsOver net budget t vs r = Walked net budget (totals-of t) vs (ltb budget (r .steps)) (totals-of r)
+
+-- the visits beyond what is carried, with n steps left
+abbrev pub visits-from : Lent → ℕ → Carried → List Visit
+visits-from l n c = carried-visits (net-in l) (limits-in l) n c
+
+-- what a walk hands back that is asked for a
+abbrev pub Ends : Lent → Asked → Totals → Type 0
+Ends l a r = EndsOver (net-in l) (a .task .budget) (a .totals) (visits-from l (a .left) (carried-in l a)) r
+
+-- the cut tree's own visits beyond the path up to the tip
+abbrev pub visits-beyond : Lent → Asked → List Visit
+visits-beyond l a = visits (net-in l) (limits-in l) (a .left) (path-of (net-in l) (a .path) (a .tip .len))
+
+-- what the walk from the start hands back
+abbrev pub WalkedTree : List ℕ → ℕ → Totals → Type 0
+WalkedTree ws budget r = EndsOver (net-of ws) budget nothing-yet (tree (net-of ws) ((described ws) .limits)) r

@@ -1,0 +1,15 @@
+pub mod Packed
+pub mod Ceilings
+pub mod Search
+pub mod Firsts
+pub mod Reached
+pub mod StateSums
+pub mod Losses
+pub mod StepLaws
+pub mod Sections
+pub mod Classes
+pub mod StatesFilled
+pub mod StepsFilled
+pub mod StepPlaces
+pub mod TransitionCount
+pub mod Summaries

@@ -1,0 +1,6 @@
+pub mod Described
+pub mod Tables
+pub mod Sums
+pub mod Steps
+pub mod Roots
+pub mod Classes

@@ -1,0 +1,74 @@
+-- The table: what belongs to a state or to a transition alone, worked out once. Its sections by name, and what a filled table holds. Assumes
+-- nothing: these are definitions.
+use Prim.Native.Nat.{ℕ, _+_, _/_, _%_, _≤_, _<_}
+use mathlib.Core.Path.{_≡_}
+use mathlib.Core.List.{List, []}
+use lib.ListN.{length, getD}
+use lib.IntN.{pos, _-ℤ_}
+use Rattle.figure.specs.declared.Figure.{Figure}
+use Rattle.figure.specs.Rounding.{figure, none}
+use Rattle.word.specs.Model.{Transition, Net}
+use Rattle.model.specs.Index.{transition}
+use Rattle.tree.specs.Paths.{Class, class1, class2, class3, class}
+use Rattle.tree.specs.States.{rate-sum, mean-up, mean-down, moment-sum}
+use Rattle.tree.specs.Upper.{share}
+use Rattle.tree.specs.Grains.{grains}
+use Rattle.tree.specs.Lower.{class2-factor, class3-factor}
+use Rattle.tables.specs.Internal.Described.{described, net-of}
+
+-- A figure in 64 bits: its digits in the low 30 bits, its power, raised by 2^20, above them.
+unfoldable pub unpacked : ℕ → Figure
+unpacked x = figure (x % 1073741824) (pos (x / 1073741824 % 2097152) -ℤ pos 1048576)
+
+-- ---- the sections
+
+-- of each state from 0 to 1,000: E, h, h' and H
+
+abbrev pub rate-sum-in : List ℕ → ℕ → Figure
+rate-sum-in table s = unpacked (getD table s 0)
+
+abbrev pub mean-up-in : List ℕ → ℕ → Figure
+mean-up-in table s = unpacked (getD table (1001 + s) 0)
+
+abbrev pub mean-down-in : List ℕ → ℕ → Figure
+mean-down-in table s = unpacked (getD table (2002 + s) 0)
+
+abbrev pub moment-sum-in : List ℕ → ℕ → Figure
+moment-sum-in table s = unpacked (getD table (3003 + s) 0)
+
+-- of each transition from 0 to 3,999: its rate or probability, its factor in a lower, and its grains, which are no figure
+
+abbrev pub share-in : List ℕ → ℕ → Figure
+share-in table j = unpacked (getD table (4004 + j) 0)
+
+abbrev pub factor-in : List ℕ → ℕ → Figure
+factor-in table j = unpacked (getD table (8004 + j) 0)
+
+abbrev pub grain-count-in : List ℕ → ℕ → ℕ
+grain-count-in table j = getD table (12004 + j) 0
+
+-- ---- what they hold
+
+-- a step's factor in a lower, by its class; a class 1 step has none
+unfoldable pub step-factor : Net → Class → Transition → Figure
+step-factor net class1 t = none
+step-factor net class2 t = class2-factor net (t .from) (t .manner) (grains net [] t)
+step-factor net class3 t = class3-factor net (t .from) (t .manner) (grains net [] t)
+
+-- a table holds what belongs to each state from 1 to n
+pub record StatesHold (net : Net) (n : ℕ) (table : List ℕ) : Type 0 where
+  pub rate-sums : (s : ℕ) → 1 ≤ s → s ≤ n → rate-sum-in table s ≡ rate-sum net s
+  pub means-up : (s : ℕ) → 1 ≤ s → s ≤ n → mean-up-in table s ≡ mean-up net s
+  pub means-down : (s : ℕ) → 1 ≤ s → s ≤ n → mean-down-in table s ≡ mean-down net s
+  pub moment-sums : (s : ℕ) → 1 ≤ s → s ≤ n → moment-sum-in table s ≡ moment-sum net s
+
+-- and what belongs to each of the first n transitions
+pub record StepsHold (net : Net) (n : ℕ) (table : List ℕ) : Type 0 where
+  pub shares : (j : ℕ) → j < n → share-in table j ≡ share ((transition net j) .manner)
+  pub factors : (j : ℕ) → j < n → factor-in table j ≡ step-factor net (class net (transition net j)) (transition net j)
+  pub grain-counts : (j : ℕ) → j < n → grain-count-in table j ≡ grains net [] (transition net j)
+
+-- a table is filled for the model that the words describe
+pub record Tabled (ws table : List ℕ) : Type 0 where
+  pub states : StatesHold (net-of ws) ((described ws) .states) table
+  pub steps : StepsHold (net-of ws) (length (net-of ws .table)) table

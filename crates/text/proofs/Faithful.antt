@@ -1,0 +1,8 @@
+-- The laws of the text that the report program's contract carries, together. Assumes nothing.
+use Rattle.text.specs.Faithful.{FaithfulText}
+use Rattle.text.proofs.Numerals.{decimal-worth, figure-digits}
+use Rattle.text.proofs.Example.{as-documented}
+use Rattle.text.proofs.Words.{answer-enough}
+
+pub faithful-text : FaithfulText
+faithful-text = record { decimal-worth = decimal-worth; figure-digits = figure-digits; as-documented = as-documented; answer-enough = answer-enough }

@@ -1,0 +1,4 @@
+pub mod Outcomes
+pub mod Carried
+pub mod Tally
+pub mod Going

@@ -1,0 +1,32 @@
+// One word of the table: its fields, what can be wrong with it, and document 01's refusals.
+pub mod faults;
+pub mod fields;
+mod reasons;
+
+// A quantity of the table: coefficient / 10^scale.
+pub struct Quantity {
+    pub coefficient: u32,
+    pub scale: u32,
+}
+
+// Why a model is turned away, with the word's place or the state where document 01 gives one.
+pub enum Refusal {
+    TooManyWords,
+    BudgetOutOfRange,
+    WrongKind(usize),
+    BitSet(usize),
+    QuantityOutOfRange(usize),
+    FieldOutOfRange(usize),
+    SelfTransition(usize),
+    DuplicateTransition(usize),
+    TooManyTransitions(usize),
+    ProbabilitiesNotOne(usize),
+    StartWithoutExits(usize),
+    OverBudget,
+}
+
+// What a test of one word or of several says.
+pub enum Verdict {
+    Fine,
+    Refused(Refusal),
+}

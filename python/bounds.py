@@ -1,0 +1,226 @@
+"""Bounds on the probability that a system fails, from a model's words: the proved library for Python.
+
+    >>> import bounds
+    >>> library = bounds.Library()
+    >>> report = library.assess([0x11002001, 0x2000000A, 0x30000000, 0x41801000, 0x50001002, 0x60400001, 0xF0000000])
+    >>> print(report.lower, report.upper)
+    9.99500000E-4 1.00000000E-3
+    >>> library.at_or_below(report.upper, bounds.Figure.parse("1E-3"))
+    True
+
+The library is loaded from libbounds.so, which `tools/archive` makes: from the folder that BOUNDS_LIBRARY names, else from the repository's
+target/lib. What it answers is proved; this module is not, and its tests compare it with the proved text. It fails closed: only 0 from the library is
+a report, whatever the module does not know is an exception, and a library of another version is not asked at all.
+"""
+import ctypes
+import functools
+import math
+import os
+import re
+from array import array
+from dataclasses import dataclass
+from fractions import Fraction
+from pathlib import Path
+
+VERSION = 1001000  # major * 1,000,000 + minor * 1,000 + patch, as BOUNDS_VERSION in include/bounds.h
+MOST_WORDS = 16005
+MOST_BUDGET = 1000000
+WORDS_SIZE = 16006
+TEXT_SIZE = 256
+
+# The sentences of docs/REPORT.md; where one says PLACE, the place belongs.
+SENTENCES = {
+    1: "The model has more than 16,005 words.",
+    2: "The budget must be from 1 to 1,000,000 steps.",
+    3: "Word PLACE is missing, or is not of the kind that belongs there.",
+    4: "Word PLACE has a bit set that must be zero.",
+    5: "The quantity in word PLACE is out of range.",
+    6: "Word PLACE has an edition, state or limit out of range.",
+    7: "The transition at word PLACE leads from a state to itself.",
+    8: "The transition at word PLACE repeats an earlier one between the same two states.",
+    9: "The transition at word PLACE is the 17th exit of its state or the 4,001st of the model.",
+    10: "The probabilities of the fast exits of state PLACE do not add up to exactly 1.",
+    11: "The start state PLACE has no exits.",
+    13: "The model has more steps than the budget allows.",
+}
+
+
+class Error(Exception):
+    """Why there is no report."""
+
+
+class Refused(Error):
+    """The library turned the model away. A place is that of a word, counted from 0, or a state (10, 11)."""
+
+    def __init__(self, number, place):
+        self.number, self.place = number, place
+        self.sentence = SENTENCES[number].replace("PLACE", str(place))
+        super().__init__(f"refused {number} at {place}: {self.sentence}")
+
+
+class UnknownRefusal(Error):
+    """The library turned the model away by a number that this module does not know."""
+
+    def __init__(self, number, place):
+        self.number, self.place = number, place
+        super().__init__(f"refused {number} at {place}, a number that bounds {_spelled(VERSION)} does not know")
+
+
+class OtherVersion(Error):
+    """The library is of another version than this module, and was not asked."""
+
+    def __init__(self, version):
+        self.version = version
+        super().__init__(f"bounds.py is of version {_spelled(VERSION)}, the library of {_spelled(version)}: load the one that came with it")
+
+
+def _spelled(version):
+    return f"{version // 1000000}.{version // 1000 % 1000}.{version % 1000}"
+
+
+@functools.total_ordering
+@dataclass(frozen=True)
+class Figure:
+    """digits * 10 ** power: zero (held with power 0), or nine digits from 100,000,000 to 999,999,999."""
+
+    digits: int
+    power: int
+
+    def __post_init__(self):
+        nine = 100000000 <= self.digits <= 999999999 and -(2**31) <= self.power < 2**31
+        if not nine and (self.digits, self.power) != (0, 0):
+            raise ValueError(f"{self.digits} and {self.power} are no figure")
+
+    @classmethod
+    def parse(cls, spelled):
+        """The figure of a decimal number that is one exactly, such as 1.00000000E-9, 1E-9, 0.001 or 0. Refuses (ValueError) signs before the number,
+        spaces, other spellings of zero, and more than nine digits from the first that is not 0. Nothing is rounded."""
+        if spelled == "0":
+            return cls(0, 0)
+        match = re.fullmatch(r"([0-9]+)(?:\.([0-9]+))?(?:[eE]([+-]?[0-9]{1,11}))?", spelled)
+        whole, part, exponent = match.groups() if match else ("", "", "")
+        digits = ((whole or "") + (part or "")).lstrip("0")
+        if not 1 <= len(digits) <= 9:
+            raise ValueError(f"{spelled!r} is no figure such as 1.00000000E-9, 1E-9, 0.001 or 0, of at most nine digits")
+        power = int(exponent or 0) - len(part or "")
+        return cls(int(digits.ljust(9, "0")), power - (9 - len(digits)))
+
+    def __str__(self):
+        if self.digits == 0:
+            return "0"
+        return f"{self.digits // 10**8}.{self.digits % 10**8:08}E{self.power + 8}"
+
+    def __lt__(self, other):
+        if not isinstance(other, Figure):
+            return NotImplemented
+        if 0 in (self.digits, other.digits):
+            return self.digits < other.digits
+        return (self.power, self.digits) < (other.power, other.digits)
+
+    def above(self):
+        """The least float that is not below the figure: for upper figures and for the cut part."""
+        return self._float(True)
+
+    def below(self):
+        """The greatest float that is not above the figure: for lower figures."""
+        return self._float(False)
+
+    def _float(self, above):
+        if self.digits == 0:
+            return 0.0
+        # Beyond these powers the figure is above every float, or below every one that is not 0.
+        if self.power > 309:
+            return math.inf if above else math.nextafter(math.inf, 0.0)
+        exact = self.digits * Fraction(10) ** max(self.power, -400)
+        try:
+            near = exact.numerator / exact.denominator
+        except OverflowError:
+            near = math.inf
+        if near == math.inf or Fraction(near) > exact:
+            return near if above else math.nextafter(near, 0.0)
+        return math.nextafter(near, math.inf) if above and Fraction(near) < exact else near
+
+
+@dataclass(frozen=True)
+class Report:
+    """What is reported on a model that was not refused; str is the report program's six lines."""
+
+    lower: Figure
+    upper: Figure
+    cut: Figure
+    deaths: int
+    cuts: int
+    steps: int
+
+    def __str__(self):
+        return "".join(f"{name} {value}\n" for name, value in vars(self).items())
+
+
+class Library:
+    """The shared library. It keeps no state: any number of threads may call at once."""
+
+    _VALUES, _POWERS = 7, 3
+    _CALLS = {
+        "bounds_version": (ctypes.c_uint64, []),
+        "bounds_assess": (ctypes.c_uint64, [ctypes.c_void_p, ctypes.c_size_t, ctypes.c_uint64, ctypes.c_void_p, ctypes.c_void_p]),
+        "bounds_text": (ctypes.c_size_t, [ctypes.c_void_p, ctypes.c_size_t, ctypes.c_uint64, ctypes.c_void_p]),
+        "bounds_words": (ctypes.c_size_t, [ctypes.c_void_p, ctypes.c_size_t, ctypes.c_void_p]),
+        "bounds_at_or_below": (ctypes.c_uint64, [ctypes.c_uint64, ctypes.c_int32, ctypes.c_uint64, ctypes.c_int32]),
+    }
+
+    def __init__(self, path=None):
+        folder = os.environ.get("BOUNDS_LIBRARY") or Path(__file__).resolve().parent.parent / "target" / "lib"
+        self._library = ctypes.CDLL(str(path or Path(folder) / "libbounds.so"))
+        for name, (result, arguments) in self._CALLS.items():
+            function = getattr(self._library, name)
+            function.restype, function.argtypes = result, arguments
+        version = self._library.bounds_version()
+        if version != VERSION:
+            raise OtherVersion(version)
+
+    def assess(self, words, budget=MOST_BUDGET):
+        """The report on a model's words. Raises Refused, or another Error."""
+        values, powers = (ctypes.c_uint64 * self._VALUES)(), (ctypes.c_int32 * self._POWERS)()
+        lent, count = _lent(words)
+        number = self._library.bounds_assess(lent, count, _budget(budget), values, powers)
+        place, lower, upper, cut, deaths, cuts, steps = values
+        if number in SENTENCES:
+            raise Refused(number, place)
+        if number != 0:
+            raise UnknownRefusal(number, place)
+        figures = [Figure(digits, power) for digits, power in zip((lower, upper, cut), powers)]
+        return Report(*figures, deaths, cuts, steps)
+
+    def text(self, words, budget=MOST_BUDGET):
+        """What the report program prints."""
+        text = (ctypes.c_uint8 * TEXT_SIZE)()
+        lent, count = _lent(words)
+        length = self._library.bounds_text(lent, count, _budget(budget), text)
+        return bytes(text[:length]).decode("ascii")
+
+    def words_of(self, model):
+        """The words of a model that is held as bytes, four bytes a word, least significant first; left-over bytes are one more word, of no kind."""
+        words = (ctypes.c_uint32 * WORDS_SIZE)()
+        lent = (ctypes.c_uint8 * max(1, len(model))).from_buffer_copy(bytes(model) or b"\0")
+        return list(words[: self._library.bounds_words(lent, len(model), words)])
+
+    def at_or_below(self, figure, limit):
+        """Whether the figure is at or below the limit, as the library proves it; `<=` says the same."""
+        answer = self._library.bounds_at_or_below(figure.digits, figure.power, limit.digits, limit.power)
+        if answer not in (0, 1):
+            raise Error(f"the library answered {answer}, which is no order of two figures")
+        return answer == 1
+
+
+def _lent(words):
+    """A buffer that holds the words, and their number. What is no number of 32 bits is an OverflowError or a TypeError."""
+    numbers = array("I", words)
+    room = (ctypes.c_uint32 * max(1, len(numbers)))(*numbers)
+    return room, len(numbers)
+
+
+def _budget(budget):
+    """ctypes would cut a number to 64 bits."""
+    if not isinstance(budget, int) or not 0 <= budget < 2**64:
+        raise ValueError(f"the budget {budget!r} is no whole number of 64 bits")
+    return budget

@@ -1,0 +1,117 @@
+"""Tests of bounds.py: python3 python/test_bounds.py, once tools/archive has made the shared library."""
+import doctest
+import math
+import sys
+import threading
+import unittest
+from fractions import Fraction
+from pathlib import Path
+
+sys.path.insert(0, str(Path(__file__).resolve().parent))
+import bounds  # noqa: E402
+
+DATA = Path(__file__).resolve().parent.parent / "reference" / "tests" / "data"
+MODEL_A = [0x11002001, 0x2000000A, 0x30000000, 0x41801000, 0x50001002, 0x60400001, 0xF0000000]
+
+
+def answered(library, words, budget):
+    try:
+        return str(library.assess(words, budget))
+    except bounds.Refused as refused:
+        return f"refused {refused.number} at {refused.place}\n"
+
+
+class Calls(unittest.TestCase):
+    library = bounds.Library()
+
+    def test_expected_answers(self):
+        """A line is a name, a budget, words of eight digits (`-` at the end for left-over bytes, `.` for none) and the answer."""
+        seen = 0
+        for name in ("models.txt", "papers.txt"):
+            for line in (DATA / name).read_text().splitlines():
+                name, budget, digits, expected = line.split(" ")
+                whole = bytes.fromhex(digits.strip(".-"))
+                model = b"".join(whole[at : at + 4][::-1] for at in range(0, len(whole), 4))
+                words = self.library.words_of(model + (b"abc" if digits.endswith("-") else b""))
+                expected = expected.replace("|", "\n").replace("=", " ") + "\n"
+                self.assertEqual(answered(self.library, words, int(budget)), expected, name)
+                self.assertEqual(self.library.text(words, int(budget)), expected, name)
+                seen += 1
+        self.assertEqual(seen, 465)
+
+    def test_refusals(self):
+        with self.assertRaises(bounds.Refused) as raised:
+            self.library.assess(MODEL_A[:6])
+        self.assertEqual(str(raised.exception), "refused 3 at 6: Word 6 is missing, or is not of the kind that belongs there.")
+        self.assertEqual(answered(self.library, [0] * 16006, 0), "refused 1 at 0\n")
+        self.assertEqual(answered(self.library, [], 1), "refused 3 at 0\n")
+
+    def test_what_is_no_word_and_no_budget(self):
+        for word in (-1, 2**32, 1.5, "1", None):
+            with self.assertRaises((OverflowError, TypeError)):
+                self.library.assess([word])
+        for budget in (-1, 2**64, 1.5, "1", None):
+            with self.assertRaises(ValueError):
+                self.library.assess(MODEL_A, budget)
+
+    def test_bytes(self):
+        self.assertEqual(self.library.words_of(b""), [])
+        self.assertEqual(self.library.words_of(b"\1\2\3\4\5"), [0x04030201, 0])
+        self.assertEqual(len(self.library.words_of(bytes(100000))), 16006)
+
+    def test_threads(self):
+        expected, found = str(self.library.assess(MODEL_A)), []
+        work = [threading.Thread(target=lambda: found.append(str(self.library.assess(MODEL_A)))) for _ in range(8)]
+        for thread in work:
+            thread.start()
+        for thread in work:
+            thread.join()
+        self.assertEqual(found, [expected] * 8)
+
+    def test_order(self):
+        rising = [bounds.Figure(0, 0)]
+        rising += [bounds.Figure(digits, power) for power in (-2000, -20, -17, -1, 0, 2000) for digits in (100000000, 100000001, 999999999)]
+        for i, a in enumerate(rising):
+            for j, b in enumerate(rising):
+                self.assertEqual(self.library.at_or_below(a, b), i <= j)
+                self.assertEqual((a <= b, a < b, a == b), (i <= j, i < j, i == j))
+
+
+class Figures(unittest.TestCase):
+    def test_what_is_none(self):
+        for digits, power in ((0, 1), (1, 0), (99999999, 0), (1000000000, 0), (100000000, 2**31), (-100000000, 0)):
+            with self.assertRaises(ValueError):
+                bounds.Figure(digits, power)
+
+    def test_spellings(self):
+        for spelled in ("1.00000000E-9", "1E-9", "1e-09", "0.000000001", "10E-10"):
+            self.assertEqual(bounds.Figure.parse(spelled), bounds.Figure(100000000, -17))
+        for digits, power in ((123456789, -2000), (999999999, 2**31 - 1), (100000000, -(2**31)), (0, 0)):
+            figure = bounds.Figure(digits, power)
+            self.assertEqual(bounds.Figure.parse(str(figure)), figure)
+        for spelled in ("", "0.0", "00", "-1", "+1", ".5", "5.", "1E", " 1", "1\n", "1.000000000", "1234567890", "1E99999999999", "nan", "٣"):
+            with self.assertRaises(ValueError, msg=spelled):
+                bounds.Figure.parse(spelled)
+
+    def test_floats(self):
+        for digits in (100000000, 123456789, 500000000, 999999999):
+            for power in (-2000, -345, -332, -331, -323, -100, -17, -9, -8, 0, 1, 100, 299, 300, 301, 309, 310, 2000):
+                figure = bounds.Figure(digits, power)
+                above, below = figure.above(), figure.below()
+                if abs(power) < 1000:
+                    exact = digits * Fraction(10) ** power
+                    self.assertLessEqual(Fraction(below), exact)
+                    self.assertTrue(above == math.inf or Fraction(above) >= exact)
+                    self.assertEqual(above == below, Fraction(below) == exact)
+                self.assertIn(above, (below, math.nextafter(below, math.inf)))
+        self.assertEqual(bounds.Figure(0, 0).above(), 0.0)
+        self.assertEqual(bounds.Figure(100000000, -9).above(), 0.1)
+
+
+def load_tests(loader, tests, pattern):
+    tests.addTests(doctest.DocTestSuite(bounds))
+    return tests
+
+
+if __name__ == "__main__":
+    unittest.main()

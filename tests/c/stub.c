@@ -1,0 +1,58 @@
+/*
+ * A stand-in for the library, for what the doors do with a version or a refusal that they do not know. BOUNDS_STUB_VERSION is the version that it
+ * says it is of, BOUNDS_STUB_REFUSAL the number that it refuses by. Where the version is another than the header's, nothing else may be called: the
+ * program is ended.
+ */
+#include "../../include/bounds.h"
+#include <stdio.h>
+#include <stdlib.h>
+
+static uint64_t number(const char *name)
+{
+    const char *value = getenv(name);
+    return value == NULL ? 0 : strtoull(value, NULL, 10);
+}
+
+static void called(const char *function)
+{
+    if (!bounds_version_agrees()) {
+        fprintf(stderr, "stub: %s was called in spite of its version\n", function);
+        abort();
+    }
+}
+
+uint64_t bounds_version(void)
+{
+    return number("BOUNDS_STUB_VERSION");
+}
+
+uint64_t bounds_assess(const uint32_t *words, size_t count, uint64_t budget, uint64_t values[BOUNDS_VALUES], int32_t powers[BOUNDS_POWERS])
+{
+    (void)words, (void)count, (void)budget;
+    called("bounds_assess");
+    memset(values, 0, BOUNDS_VALUES * sizeof *values);
+    memset(powers, 0, BOUNDS_POWERS * sizeof *powers);
+    values[BOUNDS_PLACE] = 5;
+    return number("BOUNDS_STUB_REFUSAL");
+}
+
+size_t bounds_text(const uint32_t *words, size_t count, uint64_t budget, uint8_t text[BOUNDS_TEXT_SIZE])
+{
+    (void)words, (void)count, (void)budget, (void)text;
+    called("bounds_text");
+    return 0;
+}
+
+size_t bounds_words(const uint8_t *bytes, size_t count, uint32_t words[BOUNDS_WORDS_SIZE])
+{
+    (void)bytes, (void)count, (void)words;
+    called("bounds_words");
+    return 0;
+}
+
+uint64_t bounds_at_or_below(uint64_t digits, int32_t power, uint64_t limit_digits, int32_t limit_power)
+{
+    (void)digits, (void)power, (void)limit_digits, (void)limit_power;
+    called("bounds_at_or_below");
+    return 2;
+}
