@@ -157,7 +157,7 @@ impl Reason {
                 party: Party::Caller,
                 place: Place::Nothing,
                 sentence: "The model has more steps than the budget allows.",
-                advice: "Raise the budget; else raise P, or lower V or L, which as a rule makes `cut` greater.",
+                advice: "A caller below 1,000,000: raise the budget. Else raise P, or lower V or L, which as a rule makes `cut` greater.",
             },
         }
     }

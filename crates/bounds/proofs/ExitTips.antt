@@ -1,6 +1,6 @@
 -- U and the tip of a path one step further: the figures on the way are in range, and the results go by the class of the step. Assumes nothing.
 use Prim.Native.Nat.{ℕ, _+_, _≤_, _<_}
-use mathlib.Core.Path.{_≡_, refl, ap, ap₂, _∙_}
+use mathlib.Core.Path.{_≡_, refl, ap}
 use native.Mathlib.Nat.{le-trans, add-comm}
 use lib.Dec.{lit≤}
 use Rattle.figure.specs.declared.Figure.{Figure}

@@ -1,12 +1,12 @@
 -- Before the walk: an accepted reading describes a valid model, and what is made of its first four words lets the table be filled and the walk
 -- begin at the start. Assumes nothing.
-use Prim.Native.Nat.{ℕ, _+_, _≤_, _<_}
+use Prim.Native.Nat.{ℕ, _≤_, _<_}
 use mathlib.Core.Path.{_≡_, refl, sym, ap, ap₂, _∙_, subst}
 use mathlib.Core.List.{List}
 use native.Mathlib.Omega.{arith}
 use native.Mathlib.Nat.{le-trans, add-zero, zero-add}
 use lib.Dec.{lit≤}
-use lib.ListN.{length, set, replicate}
+use lib.ListN.{set, replicate}
 use Rattle.figure.specs.declared.Figure.{Figure}
 use Rattle.figure.specs.Operations.{of-whole}
 use Rattle.word.specs.declared.Refusal.{Refusal}
@@ -34,7 +34,7 @@ use Rattle.bounds.specs.declared.totals.Totals.{Totals}
 use Rattle.bounds.specs.Internal.Lent.{lent}
 use Rattle.bounds.specs.Internal.Paths.{path-of}
 use Rattle.bounds.specs.Internal.Totals.{Counted, nothing-yet}
-use Rattle.bounds.specs.Internal.Walk.{Asked, asked, carried-in, carried-of, visits-from, visits-beyond, Ready, Ends, EndsOver, WalkedTree}
+use Rattle.bounds.specs.Internal.Walk.{Asked, asked, carried-in, carried-of, visits-from, Ready, EndsOver, WalkedBeyond, WalkedTree}
 
 -- ---- an accepted reading
 
@@ -125,16 +125,14 @@ module _ {ws index : List ℕ} (indexes : Indexes ws index) {a : Accepted} (is :
       }
 
       -- and the walk from there is the one over the tree
-      pub walk-tree : {r : Totals} → Ends (lent ws index table) first r → WalkedTree ws budget r
-      walk-tree {r} ends =
+      pub walk-tree : {r : Totals} → WalkedBeyond (lent ws index table) first r → WalkedTree ws budget r
+      unfolding path-of tree
+      walk-tree {r} done =
           let e : visits-from (lent ws index table) (a .«step_limit») (carried-in (lent ws index table) first) ≡ tree (m .net) (m .limits) =
           ap₂ (visits-from (lent ws index table)) (ap (λ (x : Accepted). x .«step_limit») is) (at-the-start path) ∙ carried-tree m (indexes .valid) in
-          subst (λ (w : Totals). EndsOver (m .net) budget w (tree (m .net) (m .limits)) r) none-yet
-          (subst (λ (vs : List Visit). EndsOver (m .net) budget totals vs r) e ends)
-
-      -- its steps are the tree's
-      pub walk-steps : {n : ℕ} → (n ≤ budget → n ≡ totals .steps + length (visits-beyond (lent ws index table) first))
-          → n ≤ budget → n ≡ length (tree (m .net) (m .limits))
-      unfolding path-of tree
-      walk-steps {n} h within =
-          h within ∙ rw (none-yet, is) (zero-add _)
+          record {
+            ends = subst (λ (w : Totals). EndsOver (m .net) budget w (tree (m .net) (m .limits)) r) none-yet
+                (subst (λ (vs : List Visit). EndsOver (m .net) budget totals vs r) e (done .ends));
+            counted = done .counted;
+            steps-are = λ within. done .steps-are within ∙ rw (none-yet, is) (zero-add _);
+          }

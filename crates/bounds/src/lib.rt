@@ -1,11 +1,9 @@
 // From a model's words to a report: the index and the table, the walk over the cut tree and the answer.
 ghost use mathlib.Core.Path.{_≡_};
 ghost use Prim.Native.Nat.{_≤_};
-ghost use lib.ListN.{length};
 ghost use Rattle.model.specs.Promise.{summary};
-ghost use Rattle.tree.specs.Tree.{tree};
 ghost use Rattle.tree.specs.Internal.Tally as running;
-ghost use Rattle.tables.specs.Internal.Described.{Indexes, described, net-of};
+ghost use Rattle.tables.specs.Internal.Described.{Indexes, described};
 ghost use Rattle.bounds.specs.Internal.Totals.{Counted, totals-of};
 ghost use Rattle.bounds.specs.Internal.Walk.{WalkedTree};
 ghost use Rattle.bounds.specs.Answers.{Promised, report-of};
@@ -50,8 +48,6 @@ pub enum Answer {
 fn walked(words: &[u32], index: &Index, a: Accepted, budget: u64) -> Totals
     requires { ⌜ Indexes (now words) (now index) × (a ≡ summary (described (now words))) × (budget ≤ 1000000) ⌝ }
     ensures { λ r. ⌜ WalkedTree (now (words .entry)) budget r ⌝ }
-    ensures { λ r. ⌜ Counted r ⌝ }
-    ensures { λ r. ⌜ (r .steps ≤ budget → r .steps ≡ length (tree (net-of (now (words .entry))) (described (now (words .entry)) .limits))) ⌝ }
 {
     let mut table: Table = [0; 16004];
     fill(words, index, a, &mut table);

@@ -1,10 +1,6 @@
 // The walk over the cut tree.
-ghost use mathlib.Core.Path.{_≡_};
-ghost use Prim.Native.Nat.{_+_, _≤_};
-ghost use lib.ListN.{length};
 ghost use Rattle.bounds.specs.Internal.Lent.{lent};
-ghost use Rattle.bounds.specs.Internal.Totals.{Counted};
-ghost use Rattle.bounds.specs.Internal.Walk.{Ends, Ready, asked, visits-beyond};
+ghost use Rattle.bounds.specs.Internal.Walk.{Ready, WalkedBeyond, asked};
 use crate::deaths::death;
 use crate::deaths::no_cache;
 use crate::exits::Tip;
@@ -43,9 +39,7 @@ pub(crate) fn walk(
     totals: Totals,
 ) -> Totals
     requires { ⌜ Ready (lent (now words) (now index) (now table)) (asked task tip left entries path totals) ⌝ }
-    ensures { λ r. ⌜ Ends (lent (now (words .entry)) (now (index .entry)) (now (table .entry))) (asked task tip left entries path totals) r ⌝ }
-    ensures { λ r. ⌜ Counted r ⌝ }
-    ensures { λ r. ⌜ (r .steps ≤ task .budget → r .steps ≡ totals .steps + length (visits-beyond (lent (now (words .entry)) (now (index .entry)) (now (table .entry))) (asked task tip left entries path totals))) ⌝ }
+    ensures { λ r. ⌜ WalkedBeyond (lent (now (words .entry)) (now (index .entry)) (now (table .entry))) (asked task tip left entries path totals) r ⌝ }
 {
     let nth = Figure::of_whole(tip.ones + 1);
     let mut entered = entries;

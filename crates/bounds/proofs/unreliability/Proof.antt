@@ -28,14 +28,14 @@ returns c =
     let w = c .before .before in
     let k = w .before .before .before in
     let a = accepts-of (k .before .before .read .ensures .answer) (k .r2 .given .1) in
-    promise _ _ _ _ refl (over-is _ _ _ (reads-described a) (w .walked .result) (w .walked .ensures .0) (lt-ltb _ _ (c .if1 .taken)))
+    promise _ _ _ _ refl (over-is _ _ _ (reads-described a) (w .walked .result) (w .walked .ensures .ends) (lt-ltb _ _ (c .if1 .taken)))
 
 reported-requires : tie.Need-reported-requires
 reported-requires c κs =
     let w = c .before .before in
     let k = w .before .before .before in
     let a = accepts-of (k .before .before .read .ensures .answer) (k .r2 .given .1) in
-    (w .walked .ensures .1 .0, le-trans (c .if1 .left) (accepted-budget a))
+    (w .walked .ensures .counted, le-trans (c .if1 .left) (accepted-budget a))
 
 returns-2 : tie.Need-returns-2
 returns-2 c =
@@ -49,7 +49,7 @@ returns-3 c =
     let w = e .before .before in
     let k = w .before .before .before in
     let a = accepts-of (k .before .before .read .ensures .answer) (k .r2 .given .1) in
-    promise _ _ _ _ refl (report-is _ _ _ (reads-described a) (w .walked .result) (w .walked .ensures .0) (c .reported .result) (c .reported .ensures) (le-ltb _ _ (e .if1 .left)))
+    promise _ _ _ _ refl (report-is _ _ _ (reads-described a) (w .walked .result) (w .walked .ensures .ends) (c .reported .result) (c .reported .ensures) (le-ltb _ _ (e .if1 .left)))
 
 pub unreliability-spec : {M : Type 1} → statement M
 unreliability-spec =

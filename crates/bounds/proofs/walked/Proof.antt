@@ -1,7 +1,6 @@
 -- `walked` meets its contract: the table is filled with the model's values, and the walk from the start goes over the cut tree. Assumes nothing.
-use mathlib.Core.Path.{refl}
 use borrow.Author.Needs.{needs}
-use Rattle.bounds.proofs.WalkBegin.{start-below, time-scale, prune-scale, walk-ready, walk-tree, walk-steps}
+use Rattle.bounds.proofs.WalkBegin.{start-below, time-scale, prune-scale, walk-ready, walk-tree}
 use Rattle.bounds.proofs.walked.Statement.{statement}
 use Rattle.bounds.proofs.walked.Tie as tie
 
@@ -43,15 +42,9 @@ returns c =
     let l = w .before in
     let t = l .before in
     let f = t .before .before .before in
-    let h = start f .pre in (
-      walk-tree (h .0) (h .1) (f .fill .ensures) (t .figure-of .ensures) (l .figure-of2 .ensures) (w .of-whole .ensures) _ (h .2) _ (n .nothing .ensures)
-          (c .walk .ensures .0),
-      (
-        c .walk .ensures .1 .0,
-        walk-steps (h .0) (h .1) (f .fill .ensures) (t .figure-of .ensures) (l .figure-of2 .ensures) (w .of-whole .ensures) _ (h .2) _ (n .nothing .ensures)
-            (c .walk .ensures .1 .1),
-      ),
-    )
+    let h = start f .pre in
+    walk-tree (h .0) (h .1) (f .fill .ensures) (t .figure-of .ensures) (l .figure-of2 .ensures) (w .of-whole .ensures) _ (h .2) _ (n .nothing .ensures)
+    (c .walk .ensures)
 
 pub walked-spec : {M : Type 1} → statement M
 walked-spec =

@@ -2,6 +2,7 @@
 use Prim.Native.Nat.{ℕ, _+_, _≤_, _<_}
 use mathlib.Core.Path.{_≡_}
 use mathlib.Core.List.{List}
+use lib.ListN.{length}
 use lib.Dec.{ltb}
 use Rattle.word.specs.Model.{Net, Model}
 use Rattle.tree.specs.States.{mission-time, figure-of}
@@ -66,7 +67,7 @@ EndsOver net budget t vs r = Walked net budget (totals-of t) vs (ltb budget (r .
 abbrev pub visits-from : Lent → ℕ → Carried → List Visit
 visits-from l n c = carried-visits (net-in l) (limits-in l) n c
 
--- what a walk hands back that is asked for a
+-- the walk that is asked for ends so
 abbrev pub Ends : Lent → Asked → Totals → Type 0
 Ends l a r = EndsOver (net-in l) (a .task .budget) (a .totals) (visits-from l (a .left) (carried-in l a)) r
 
@@ -74,6 +75,16 @@ Ends l a r = EndsOver (net-in l) (a .task .budget) (a .totals) (visits-from l (a
 abbrev pub visits-beyond : Lent → Asked → List Visit
 visits-beyond l a = visits (net-in l) (limits-in l) (a .left) (path-of (net-in l) (a .path) (a .tip .len))
 
+-- what `walk` hands back
+pub record WalkedBeyond (l : Lent) (a : Asked) (r : Totals) : Type 0 where
+  pub ends : Ends l a r
+  pub counted : Counted r
+  -- the steps are the count of paths in the cut tree's definition, where the budget was not passed
+  pub steps-are : r .steps ≤ a .task .budget → r .steps ≡ a .totals .steps + length (visits-beyond l a)
+
 -- what the walk from the start hands back
-abbrev pub WalkedTree : List ℕ → ℕ → Totals → Type 0
-WalkedTree ws budget r = EndsOver (net-of ws) budget nothing-yet (tree (net-of ws) ((described ws) .limits)) r
+pub record WalkedTree (ws : List ℕ) (budget : ℕ) (r : Totals) : Type 0 where
+  pub ends : EndsOver (net-of ws) budget nothing-yet (tree (net-of ws) ((described ws) .limits)) r
+  pub counted : Counted r
+  -- likewise, of the whole tree
+  pub steps-are : r .steps ≤ budget → r .steps ≡ length (tree (net-of ws) ((described ws) .limits))

@@ -1,11 +1,9 @@
 -- `death` meets its contract: the lower follows from the stem, and a slow exit's stem may be kept. Assumes nothing.
-use Prim.Native.Nat.{_<_}
 use mathlib.Core.Path.{_≡_, sym, ap, _∙_}
 use native.Mathlib.Omega.{arith}
 use lib.Dec.{lit≤}
 use borrow.Author.Needs.{needs}
 use mathlib.Core.List.{_∷_}
-use Rattle.figure.specs.Operands.{Sized}
 use Rattle.figure.proofs.Sized.{sized-≤}
 use Rattle.model.specs.Index.{transition}
 use Rattle.tree.specs.Lower.{lower}

@@ -1,6 +1,5 @@
 -- `left_by` meets its contract: the state stands in the transition's word, and the class follows from it and from h of that state. Assumes
 -- nothing.
-use Prim.Native.Nat.{_≤_}
 use mathlib.Core.Path.{_≡_, ap, _∙_}
 use native.Mathlib.Omega.{arith}
 use borrow.Author.Needs.{needs}

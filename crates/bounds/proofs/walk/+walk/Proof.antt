@@ -196,7 +196,7 @@ walk-returns t c =
     let k = i .before .before .before .before in
     let r = (loop-begin t k) .pre .1 in
     let ends = loop-over r (k .loop .inv .1) (more-at t (i .before .before .before)) (i .if1 .taken) (c .with-step .ensures .0) in
-    (ends, (c .with-step .ensures .1, ends-steps r ends))
+    record { ends = ends; counted = c .with-step .ensures .1; steps-are = ends-steps r ends }
 
 walk-exit-at-requires : (t : ℕ) → walk-lts.Need-exit-at-requires (claims t) (walk-at t) walk.Post walk-Inv-loop walk-μ-loop
 walk-exit-at-requires t c κs =
@@ -269,8 +269,8 @@ walk-returns-2 : (t : ℕ) → walk-lts.Need-returns-2 (claims t) (walk-at t) wa
 walk-returns-2 t c =
     let w = c .before .before .before in
     let v = visited t (w .before) in
-    let ends = visit-over v (on t (w .before)) (w .walk .ensures .0) (c .if4 .taken) in
-    (ends, (w .walk .ensures .1 .0, ends-steps (v .turn .ready) ends))
+    let ends = visit-over v (on t (w .before)) (w .walk .ensures .ends) (c .if4 .taken) in
+    record { ends = ends; counted = w .walk .ensures .counted; steps-are = ends-steps (v .turn .ready) ends }
 
 walk-with-cut-requires : (t : ℕ) → walk-lts.Need-with-cut-requires (claims t) (walk-at t) walk.Post walk-Inv-loop walk-μ-loop
 walk-with-cut-requires t c κs = note-figures (turn t (read-exit t (c .before .before .before)))
@@ -301,7 +301,7 @@ walk-loop-again t c =
             before = record { before = record { before = record { before = c .before; if2 = d .0 }; is-continued = d .1 }; if3 = d .2 };
             with-step2 = d .3;
           } in
-          exit-same (d .8) (d .9) (d .10) (d .11) (visit-back (visited t g) (on t g) (d .4 .ensures .0) (d .4 .ensures .1 .0) (d .7 .left)))
+          exit-same (d .8) (d .9) (d .10) (d .11) (visit-back (visited t g) (on t g) (d .4 .ensures .ends) (d .4 .ensures .counted) (d .7 .left)))
           (λ d. let ended = sym (d .1 .ensures) ∙ d .2 .left in
           exit-same (d .4) (d .5) (d .6) (d .7) (visit-ended (cut-noted w o is (d .3 .ensures .1) (dead ∙ d .0 .left) ended (d .3 .ensures .0)) ended)))
           (c .if2 .came),
@@ -312,7 +312,7 @@ walk-returns-3 t c =
     let k = c .before in
     let r = (loop-begin t k) .pre .1 in
     let ends = loop-end r (k .loop .inv .1) (omega (arith, k .before .exit-count .ensures .0, c .loop-test .left)) in
-    (ends, (k .loop .inv .1 .counted, ends-steps r ends))
+    record { ends = ends; counted = k .loop .inv .1 .counted; steps-are = ends-steps r ends }
 
 pub +walk-spec : {M : Type 1} → statement M
 +walk-spec = close μ-walk λ t. walk-lts.spec (claims t)
