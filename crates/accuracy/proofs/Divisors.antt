@@ -12,10 +12,12 @@ use Rattle.fraction.proofs.Signed.{signed-positive}
 use Rattle.fraction.proofs.Quotients.{Positive, whole-positive, ^ᶠ-positive}
 use Rattle.word.specs.Model.{Transition, Net, Model}
 use Rattle.model.specs.Internal.Valid.{Valid}
+use Rattle.model.proofs.ReadValid.{read-valid}
 use Rattle.tree.specs.Paths.{Path, class1, class, class1-count}
 use Rattle.tree.specs.Grains.{grains}
 use Rattle.tree.proofs.Least.{grains-low}
 use Rattle.accuracy.specs.Bounds.{factorial, grain-time}
+use Rattle.accuracy.specs.Faithful.{NoZeroExactDivisor}
 use Rattle.accuracy.proofs.Natural.{_is_, is-whole, is-product, is-quotient}
 use Rattle.accuracy.proofs.ExactStates.{exact-is}
 use Rattle.accuracy.proofs.RoundedStates.{quantity-pos}
@@ -66,3 +68,16 @@ module _ {m : Model} (valid : Valid m) where
 
     pub step-time-squared-positive : Positive (grain-time (m .net) (grains (m .net) p t) ^ᶠ 2)
     step-time-squared-positive = ^ᶠ-positive _ 2 step-time-positive
+
+pub no-zero-exact-divisor : NoZeroExactDivisor
+no-zero-exact-divisor ws budget m e =
+    let valid = read-valid ws budget m e in
+    record {
+      factorials = factorial-positive;
+      number-more = number-more-positive (m .net);
+      two = two-positive;
+      million = million-positive;
+      ten-thousand = ten-thousand-positive;
+      grain-square = step-time-squared-positive valid;
+      grain-times = step-time-positive valid;
+    }

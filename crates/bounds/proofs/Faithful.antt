@@ -2,6 +2,7 @@
 use Rattle.figure.proofs.Faithful.{faithful-figures}
 use Rattle.model.proofs.Numbers.{reason-refuses, refusal-reason}
 use Rattle.tree.proofs.Faithful.{faithful-tree}
+use Rattle.accuracy.proofs.Faithful.{faithful-exact}
 use Rattle.bounds.specs.Faithful.{Faithful}
 
 pub faithful : Faithful
@@ -10,4 +11,5 @@ faithful = record {
   reason-is-refused = reason-refuses;
   refusal-has-reason = refusal-reason;
   tree = faithful-tree;
+  exact = faithful-exact;
 }

@@ -3,6 +3,7 @@
 use Rattle.figure.specs.Faithful.{FaithfulFigures}
 use Rattle.model.specs.Reasons.{ReasonIsRefused, RefusalHasReason}
 use Rattle.tree.specs.Faithful.{FaithfulTree}
+use Rattle.accuracy.specs.Faithful.{FaithfulExact}
 
 pub record Faithful : Type 0 where
   -- figures and their rounding
@@ -10,5 +11,7 @@ pub record Faithful : Type 0 where
   -- "Each number is returned when its condition is the first to hold, and in no other event."
   pub reason-is-refused : ReasonIsRefused
   pub refusal-has-reason : RefusalHasReason
-  -- the cut tree, refusal 10, grains, divisors, models A to L
+  -- the cut tree, refusal 10, grains, divisors, models A to L and the pinned cases
   pub tree : FaithfulTree
+  -- the exact bounds: divisors, and models whose sums are worked out by hand
+  pub exact : FaithfulExact

@@ -6,6 +6,7 @@ use Rattle.tree.proofs.Probabilities.{probability-sum-iff, probabilitie
 use Rattle.tree.proofs.Least.{least-is-least}
 use Rattle.tree.proofs.Divisors.{no-zero-divisor}
 use Rattle.tree.proofs.Marked.{marked-models-agree}
+use Rattle.tree.proofs.Pinned.{pinned-cases-agree}
 
 pub faithful-tree : FaithfulTree
 faithful-tree = record {
@@ -17,4 +18,5 @@ faithful-tree = record {
   least-is-least = least-is-least;
   no-zero-divisor = no-zero-divisor;
   marked-models-agree = marked-models-agree;
+  pinned-cases-agree = pinned-cases-agree;
 }

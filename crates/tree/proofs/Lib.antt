@@ -1,5 +1,6 @@
 pub mod Computing
 pub mod Marked
+pub mod Pinned
 pub mod ModelA
 pub mod Least
 pub mod Quantities

@@ -18,6 +18,7 @@ use Rattle.tree.specs.Grains.{Least, reaches, least}
 use Rattle.tree.specs.Lower.{exact}
 use Rattle.tree.specs.Tree.{continued, outcome, Visit, tree}
 use Rattle.tree.specs.Marked.{MarkedModelsAgree}
+use Rattle.tree.specs.Pinned.{PinnedCasesAgree}
 
 -- ---- the paths of the tree
 
@@ -135,3 +136,5 @@ pub record FaithfulTree : Type 0 where
   pub no-zero-divisor : NoZeroDivisor
   -- "Models A to L are proved as a single list by one claim about the definitions"
   pub marked-models-agree : MarkedModelsAgree
+  -- what the exact and the rounded bounds share is what is worked out by hand
+  pub pinned-cases-agree : PinnedCasesAgree

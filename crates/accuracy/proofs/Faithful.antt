@@ -1,0 +1,7 @@
+-- The definitions of the exact bounds are what document 01 says of them. Assumes nothing.
+use Rattle.accuracy.specs.Faithful.{FaithfulExact}
+use Rattle.accuracy.proofs.Divisors.{no-zero-exact-divisor}
+use Rattle.accuracy.proofs.Examples.{exact-examples-agree}
+
+pub faithful-exact : FaithfulExact
+faithful-exact = record { no-zero-exact-divisor = no-zero-exact-divisor; exact-examples-agree = exact-examples-agree }
