@@ -23,3 +23,4 @@ pub mod Wholes
 pub mod Totals
 pub mod Orders
 pub mod Differences
+pub mod Ceilings

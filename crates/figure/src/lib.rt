@@ -5,10 +5,12 @@ ghost use lib.Signed.{mag};
 ghost use Rattle.figure.specs.Rounding.{none, IsFigure};
 ghost use Rattle.figure.specs.Operands.{Operand};
 ghost use Rattle.figure.specs.Operations as ops;
+ghost use Rattle.figure.specs.Internal.Ceiling.{Ceiling};
 
+mod ceiling;
 mod difference;
 mod division;
-pub mod powers;
+mod powers;
 mod product;
 mod quotient;
 mod sum;
@@ -112,6 +114,14 @@ impl Figure {
         let digits = self.digits;
         let power = powers::sum(self.power, p);
         Figure { digits, power }
+    }
+
+    // The least whole number not below it, or 10^18 where that is less.
+    pub fn ceiling(self) -> u64
+        requires { ⌜ IsFigure 9 self ⌝ }
+        ensures { λ r. ⌜ Ceiling self r ⌝ }
+    {
+        ceiling::ceiling(self)
     }
 
     pub fn at_or_below(self, other: Figure) -> bool

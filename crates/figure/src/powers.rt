@@ -5,7 +5,7 @@ ghost use lib.IntN.{pos, negℤ, _+ℤ_, _-ℤ_};
 ghost use lib.Signed.{mag, _≤ℤ_};
 
 // Ten to the power k. In arms: a constant table was written to the stack anew at each call, which took a good quarter of the walk's instructions.
-pub fn ten_to(k: usize) -> u64
+pub(crate) fn ten_to(k: usize) -> u64
     requires { ⌜ k < 20 ⌝ }
     ensures { λ r. ⌜ r ≡ 10 ^ k ⌝ }
 {

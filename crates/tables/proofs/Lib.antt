@@ -1,5 +1,4 @@
 pub mod Packed
-pub mod Ceilings
 pub mod Search
 pub mod Firsts
 pub mod Reached

@@ -11,7 +11,8 @@ use mir.Val.{Fits}
 use Rattle.figure.specs.declared.Figure.{Figure}
 use Rattle.tree.specs.Grains.{reaches, least}
 use Rattle.tree.proofs.Least.{least-found}
-use Rattle.tables.specs.Internal.Roots.{exponent, Ceiling, Below}
+use Rattle.figure.specs.Internal.Ceiling.{Ceiling}
+use Rattle.tables.specs.Internal.Roots.{exponent, Below}
 
 -- ---- cubes and squares of numbers below 1,000,000
 

@@ -3,28 +3,8 @@ ghost use mathlib.Core.Path.{_≡_};
 ghost use Prim.Native.Nat.{_^_, _<_, _≤_};
 ghost use Rattle.figure.specs.Rounding.{IsFigure};
 ghost use Rattle.tree.specs.Grains as goal;
-ghost use Rattle.tables.specs.Internal.Roots.{exponent, Ceiling, Below};
+ghost use Rattle.tables.specs.Internal.Roots.{exponent, Below};
 use figure::Figure;
-use figure::powers;
-
-// The least whole number not below g, or 10^18 where that is less.
-fn ceiling(g: Figure) -> u64
-    requires { ⌜ IsFigure 9 g ⌝ }
-    ensures { λ r. ⌜ Ceiling g r ⌝ }
-{
-    let power = g.power;
-    if 9 < power {
-        return 1_000_000_000_000_000_000;
-    }
-    if 0 <= power {
-        return g.digits * powers::ten_to(power as usize);
-    }
-    if power < 0 - 9 {
-        return 1;
-    }
-    let d = powers::ten_to((0 - power) as usize);
-    (g.digits + (d - 1)) / d
-}
 
 // The cube of n, or its square.
 fn power(cube: bool, n: u64) -> u64
@@ -61,7 +41,7 @@ pub(crate) fn least(cube: bool, g: Figure) -> u64
     ensures { λ r. ⌜ r ≡ goal.least (exponent cube) g ⌝ }
     ensures { λ r. ⌜ r ≤ 1000000 ⌝ }
 {
-    let c = ceiling(g);
+    let c = g.ceiling();
     let mut n = close_below(cube, c) + 1;
     let found = loop {
         if 1_000_000 <= n {

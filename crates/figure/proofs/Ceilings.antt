@@ -16,13 +16,13 @@ use Rattle.fraction.proofs.Ratio.{_≼_, _≈_, ofℕ, _⊗_, ≼-trans, ≈-re
 use Rattle.fraction.proofs.Multiples.{ceilDiv, ceil-reach, ceil-least}
 use Rattle.fraction.proofs.PowersOfTen.{ten-to, ten-nat}
 use Rattle.fraction.proofs.Signed.{signed-whole, at-most-signed}
 use Rattle.figure.specs.declared.Figure.{Figure}
 use Rattle.figure.specs.Rounding.{value, IsFigure, is-zero, is-whole}
 use Rattle.figure.proofs.Scale.{pow-pos, pow-mono, multiple-≤, multiple-≼, power-inverse}
 use Rattle.figure.proofs.Value.{val, value-is}
 use Rattle.figure.proofs.Figures.{digits-high}
 use Rattle.figure.proofs.Stored.{stored, mag-difference, both-fit, both-kept, gap-fits}
-use Rattle.tables.specs.Internal.Roots.{Ceiling}
+use Rattle.figure.specs.Internal.Ceiling.{Ceiling}
 
 -- ---- two tests that say the same
 

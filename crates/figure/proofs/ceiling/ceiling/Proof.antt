@@ -1,10 +1,10 @@
--- `grains::ceiling` meets its contract, by the range of the power. Assumes nothing.
+-- `ceiling` meets its contract, by the range of the power. Assumes nothing.
 use native.Mathlib.Nat.{le-trans}
 use lib.Dec.{lit≤}
 use borrow.Author.Needs.{needs}
-use Rattle.tables.proofs.Ceilings.{ceiling-high, whole-cast, whole-below, whole-fits, ceiling-whole, ceiling-low, part-fit, part-cast, part-below, part-pos, part-fits, ceiling-part}
-use Rattle.tables.proofs.grains.ceiling.Statement.{statement}
-use Rattle.tables.proofs.grains.ceiling.Tie as tie
+use Rattle.figure.proofs.Ceilings.{ceiling-high, whole-cast, whole-below, whole-fits, ceiling-whole, ceiling-low, part-fit, part-cast, part-below, part-pos, part-fits, ceiling-part}
+use Rattle.figure.proofs.ceiling.ceiling.Statement.{statement}
+use Rattle.figure.proofs.ceiling.ceiling.Tie as tie
 
 returns : tie.Need-returns
 returns c = let s = c .before .before in ceiling-high (s .args .g) (s .pre) (search needs) (c .if1 .taken)
