@@ -24,8 +24,8 @@ use Rattle.bounds.proofs.Faithful.{faithful}
 use Rattle.bounds.specs.declared.Report.{Report}
 use Rattle.bounds.specs.declared.Answer.{Answer}
 use Rattle.bounds.specs.declared.Answer.the-variants.{Report as reported, Refused}
-use Rattle.bounds.specs.declared.totals.Totals.{Totals}
-use Rattle.bounds.specs.Internal.Totals.{totals-of, nothing-yet}
+use Rattle.path.specs.declared.totals.Totals.{Totals}
+use Rattle.path.specs.Internal.Totals.{totals-of, nothing-yet}
 use Rattle.bounds.specs.Internal.Walk.{EndsOver}
 use Rattle.bounds.specs.Answers.{Promised, answer-of, report-of}
 

@@ -29,11 +29,11 @@ use Rattle.tree.proofs.Ranges.{total-none}
 use Rattle.tables.specs.Internal.Described.{Indexes, described}
 use Rattle.tables.specs.Internal.Tables.{Tabled}
 use Rattle.bounds.specs.declared.walk.Task.{Task}
-use Rattle.bounds.specs.declared.exits.Tip.{Tip}
-use Rattle.bounds.specs.declared.totals.Totals.{Totals}
-use Rattle.bounds.specs.Internal.Lent.{lent}
-use Rattle.bounds.specs.Internal.Paths.{path-of}
-use Rattle.bounds.specs.Internal.Totals.{Counted, nothing-yet}
+use Rattle.path.specs.declared.exits.Tip.{Tip}
+use Rattle.path.specs.declared.totals.Totals.{Totals}
+use Rattle.path.specs.Internal.Lent.{lent}
+use Rattle.path.specs.Internal.Paths.{path-of}
+use Rattle.path.specs.Internal.Totals.{Counted, nothing-yet}
 use Rattle.bounds.specs.Internal.Walk.{Asked, asked, carried-in, carried-of, visits-from, Ready, EndsOver, WalkedBeyond, WalkedTree}
 
 -- ---- an accepted reading

@@ -21,16 +21,16 @@ use Rattle.tree.proofs.Tally.{tally-steps}
 use Rattle.tree.proofs.Carried.{rest, carried-is, valid-known}
 use Rattle.tree.specs.Internal.Going.{Walked}
 use Rattle.tree.proofs.Going.{Going, exits-start, exits-end, exit-over}
-use Rattle.bounds.specs.declared.totals.Totals.{Totals}
-use Rattle.bounds.specs.declared.deaths.Cache.{Cache}
-use Rattle.bounds.specs.Internal.Lent.{Lent, model-in, net-in, limits-in}
-use Rattle.bounds.specs.Internal.Paths.{path-of}
-use Rattle.bounds.specs.Internal.Totals.{totals-of, Counted}
-use Rattle.bounds.specs.Internal.Exits.{ExitReady}
-use Rattle.bounds.specs.Internal.Deaths.{Cached}
+use Rattle.path.specs.declared.totals.Totals.{Totals}
+use Rattle.path.specs.declared.deaths.Cache.{Cache}
+use Rattle.path.specs.Internal.Lent.{Lent, model-in, net-in, limits-in}
+use Rattle.path.specs.Internal.Paths.{path-of}
+use Rattle.path.specs.Internal.Totals.{totals-of, Counted}
+use Rattle.path.specs.Internal.Exits.{ExitReady}
+use Rattle.path.specs.Internal.Deaths.{Cached}
 use Rattle.bounds.specs.Internal.Walk.{Asked, carried-in, Ready, Ends, visits-from, visits-beyond}
-use Rattle.bounds.proofs.PathSums.{path-length, path-valid}
-use Rattle.bounds.proofs.PathArrays.{SameBelow}
+use Rattle.path.proofs.PathSums.{path-length, path-valid}
+use Rattle.path.proofs.PathArrays.{SameBelow}
 
 -- what the loop holds at exit i: the entry counts, the path, the totals so far and the cache
 pub record Held : Type 0 where

@@ -29,19 +29,19 @@ use Rattle.tree.specs.Internal.Carried.{Carried, Carries, carry, outcome-by, ou
 use Rattle.tree.proofs.Carried.{carry-upper, carry-carries, GoesOnBy, continued-by}
 use Rattle.tree.proofs.Going.{exit-totals, exit-within, exit-ended, exit-back, exit-below-over}
 use Rattle.tables.proofs.Classes.{step-valid}
-use Rattle.bounds.specs.declared.outcome.Outcome.{Outcome as Coded}
-use Rattle.bounds.specs.declared.totals.Totals.{Totals}
-use Rattle.bounds.specs.declared.deaths.Cache.{Cache}
-use Rattle.bounds.specs.declared.exits.Exit.{Exit}
-use Rattle.bounds.specs.Internal.Lent.{Lent, model-in, net-in, limits-in}
-use Rattle.bounds.specs.Internal.Paths.{path-of}
-use Rattle.bounds.specs.Internal.Totals.{totals-of, Counted}
-use Rattle.bounds.specs.Internal.Outcomes.{outcome-of, judged}
-use Rattle.bounds.specs.Internal.Exits.{tip-after, ExitOf}
-use Rattle.bounds.specs.Internal.Deaths.{LastStep, Cached}
+use Rattle.path.specs.declared.outcome.Outcome.{Outcome as Coded}
+use Rattle.path.specs.declared.totals.Totals.{Totals}
+use Rattle.path.specs.declared.deaths.Cache.{Cache}
+use Rattle.path.specs.declared.exits.Exit.{Exit}
+use Rattle.path.specs.Internal.Lent.{Lent, model-in, net-in, limits-in}
+use Rattle.path.specs.Internal.Paths.{path-of}
+use Rattle.path.specs.Internal.Totals.{totals-of, Counted}
+use Rattle.path.specs.Internal.Outcomes.{outcome-of, judged}
+use Rattle.path.specs.Internal.Exits.{tip-after, ExitOf}
+use Rattle.path.specs.Internal.Deaths.{LastStep, Cached}
 use Rattle.bounds.specs.Internal.Walk.{Asked, asked, carried-of, carried-in, Ready, Ends, EndsOver, visits-from}
-use Rattle.bounds.proofs.PathArrays.{below-same, path-longer, known-longer}
-use Rattle.bounds.proofs.TotalsNoted.{note-death, note-step, note-cut}
+use Rattle.path.proofs.PathArrays.{below-same, path-longer, known-longer}
+use Rattle.path.proofs.TotalsNoted.{note-death, note-step, note-cut}
 use Rattle.bounds.proofs.WalkLoop.{Held, held, AtExit, state-small, room, path-short, steps-valid, is-exit, ends-by}
 
 module _ (l : Lent) (a : Asked) (h : Held) (x : Exit) where

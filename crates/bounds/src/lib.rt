@@ -4,12 +4,9 @@ ghost use Prim.Native.Nat.{_≤_};
 ghost use Rattle.model.specs.Promise.{summary};
 ghost use Rattle.tree.specs.Internal.Tally as running;
 ghost use Rattle.tables.specs.Internal.Described.{Indexes, described};
-ghost use Rattle.bounds.specs.Internal.Totals.{Counted, totals-of};
+ghost use Rattle.path.specs.Internal.Totals.{Counted, totals-of};
 ghost use Rattle.bounds.specs.Internal.Walk.{WalkedTree};
 ghost use Rattle.bounds.specs.Answers.{Promised, report-of};
-use crate::exits::Tip;
-use crate::totals::Totals;
-use crate::totals::nothing;
 use crate::walk::Task;
 use crate::walk::walk;
 use figure::Figure;
@@ -17,16 +14,14 @@ use model::Accepted;
 use model::Reading;
 use model::index::Index;
 use model::read;
+use path::exits::Tip;
+use path::totals::Totals;
+use path::totals::nothing;
 use tables::figures::figure_of;
 use tables::fill;
 use tables::table::Table;
 use word::Refusal;
 
-mod deaths;
-mod exits;
-mod lower;
-mod outcome;
-mod totals;
 mod walk;
 
 // The lower and the upper figure, the cut paths' part of the upper, and the counts of death paths, cut paths and steps.

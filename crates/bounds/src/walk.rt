@@ -1,20 +1,20 @@
 // The walk over the cut tree.
-ghost use Rattle.bounds.specs.Internal.Lent.{lent};
+ghost use Rattle.path.specs.Internal.Lent.{lent};
 ghost use Rattle.bounds.specs.Internal.Walk.{Ready, WalkedBeyond, asked};
-use crate::deaths::death;
-use crate::deaths::no_cache;
-use crate::exits::Tip;
-use crate::exits::exit_at;
-use crate::outcome::is_continued;
-use crate::outcome::is_death;
-use crate::outcome::judge;
-use crate::totals::Totals;
-use crate::totals::with_cut;
-use crate::totals::with_death;
-use crate::totals::with_step;
 use figure::Figure;
 use model::index::Index;
 use model::index::exit_count;
+use path::deaths::death;
+use path::deaths::no_cache;
+use path::exits::Tip;
+use path::exits::exit_at;
+use path::outcome::is_continued;
+use path::outcome::is_death;
+use path::outcome::judge;
+use path::totals::Totals;
+use path::totals::with_cut;
+use path::totals::with_death;
+use path::totals::with_step;
 use tables::table::Table;
 
 // What stays the same in a walk: the mission time, the prune level, the entry limit and the budget.

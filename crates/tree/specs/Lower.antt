@@ -42,7 +42,7 @@ class2-factor net s (fast m d q) n = times-down (figure-of q) (minus-down (of-wh
 unfoldable pub class3-factor : Net → ℕ → Manner → ℕ → Figure
 class3-factor net s x n = times-down (share x) (minus-down (mean-down net s) (class3-loss net s n))
 
--- One more step; t is down(t). "Class 1 by rate, by down(t), then divided by k as above; others by their factor."
+-- One more step; t is down(t): "class 1 by rate, by down(t), then divided by k as above; others by their factor."
 unfoldable pub lower-step : Net → Figure → Class → ℕ → ℕ → Transition → Figure → Figure
 lower-step net t class1 k n x l = divided-down (times-down (times-down l (share (x .manner))) t) (of-whole k)
 lower-step net t class2 k n x l = times-down l (class2-factor net (x .from) (x .manner) n)

@@ -12,7 +12,7 @@ abbrev pub share : Manner → Figure
 share (slow r) = figure-of r
 share (fast m d q) = figure-of q
 
--- One more step. "Class 1 by rate, by T, then divided by k, its number among class 1 steps so far; class 2 by q; class 3 by rate, by h."
+-- One more step: "class 1 by rate, by T, then divided by k, its number among class 1 steps so far; class 2 by q; class 3 by rate, by h."
 unfoldable pub upper-step : Net → Class → ℕ → Transition → Figure → Figure
 upper-step net class1 k t u = divided-up (times-up (times-up u (share (t .manner))) (mission-time net)) (of-whole k)
 upper-step net class2 k t u = times-up u (share (t .manner))

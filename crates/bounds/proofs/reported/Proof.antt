@@ -1,6 +1,6 @@
 -- `reported` meets its contract: the totals are in range, and each figure is a total taken to nine digits. Assumes nothing.
 use Rattle.tree.specs.Internal.Tally.{finish}
-use Rattle.bounds.proofs.TotalsRange.{lower-operand, died-operand, cut-operand}
+use Rattle.path.proofs.TotalsRange.{lower-operand, died-operand, cut-operand}
 use Rattle.bounds.proofs.reported.Statement.{statement}
 use Rattle.bounds.proofs.reported.Tie as tie
 

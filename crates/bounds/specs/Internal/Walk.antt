@@ -11,11 +11,11 @@ use Rattle.tree.specs.Internal.Carried.{Carried, Carries, carried-visits}
 use Rattle.tree.specs.Internal.Going.{Walked}
 use Rattle.tables.specs.Internal.Described.{described, net-of}
 use Rattle.bounds.specs.declared.walk.Task.{Task}
-use Rattle.bounds.specs.declared.exits.Tip.{Tip}
-use Rattle.bounds.specs.declared.totals.Totals.{Totals}
-use Rattle.bounds.specs.Internal.Lent.{Lent, Filled, model-in, net-in, limits-in}
-use Rattle.bounds.specs.Internal.Paths.{path-of, Known}
-use Rattle.bounds.specs.Internal.Totals.{totals-of, nothing-yet, Counted}
+use Rattle.path.specs.declared.exits.Tip.{Tip}
+use Rattle.path.specs.declared.totals.Totals.{Totals}
+use Rattle.path.specs.Internal.Lent.{Lent, Filled, model-in, net-in, limits-in}
+use Rattle.path.specs.Internal.Paths.{path-of, Known}
+use Rattle.path.specs.Internal.Totals.{totals-of, nothing-yet, Counted}
 
 -- What a walk is asked for: to go on from the tip, with so many steps left, the entry counts and the path up to the tip, and the totals so far.
 pub record Asked : Type 0 where

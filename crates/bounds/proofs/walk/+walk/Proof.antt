@@ -10,10 +10,10 @@ use borrow.Author.Needs.{needs}
 use Rattle.model.specs.Index.{exit-count}
 use Rattle.tree.specs.Tree.{is-continued}
 use Rattle.tree.proofs.Outcomes.{is-death-true}
-use Rattle.bounds.specs.Internal.Lent.{Lent, lent}
-use Rattle.bounds.specs.Internal.Outcomes.{outcome-of}
+use Rattle.path.specs.Internal.Lent.{Lent, lent}
+use Rattle.path.specs.Internal.Outcomes.{outcome-of}
 use Rattle.bounds.specs.Internal.Walk.{Asked, asked}
-use Rattle.bounds.proofs.DeathStems.{last-lower}
+use Rattle.path.proofs.DeathStems.{last-lower}
 use Rattle.bounds.proofs.WalkLoop.{Held, held, AtExit, exit-same, state-small, room, ones-few, exit-ready, loop-start, steps-few, loop-end, loop-over, ends-steps}
 use Rattle.bounds.proofs.WalkTurns.{Turn, Visited, judged-there, there-small, judge-figures, last-step, note-figures, death-noted, step-noted, cut-noted}
 use Rattle.bounds.proofs.WalkTurns.{visit-ended, before-fits, ready-there, visit-over, visit-back}
@@ -22,15 +22,15 @@ use borrow.Fn.PlainCycle.{Measures, is, falls, and}
 use Rattle.bounds.proofs.walk.walk.Reads as walk
 use Rattle.bounds.proofs.walk.walk.Kinds as walk-kinds
 use Rattle.bounds.proofs.walk.+walk.Lts-walk as walk-lts
-use Rattle.bounds.proofs.deaths.death.Reads as death-reads
-use Rattle.bounds.proofs.deaths.no_cache.Reads as no-cache-reads
-use Rattle.bounds.proofs.exits.exit_at.Reads as exit-at-reads
-use Rattle.bounds.proofs.outcome.is_continued.Reads as is-continued-reads
-use Rattle.bounds.proofs.outcome.is_death.Reads as is-death-reads
-use Rattle.bounds.proofs.outcome.judge.Reads as judge-reads
-use Rattle.bounds.proofs.totals.with_cut.Reads as with-cut-reads
-use Rattle.bounds.proofs.totals.with_death.Reads as with-death-reads
-use Rattle.bounds.proofs.totals.with_step.Reads as with-step-reads
+use Rattle.path.proofs.deaths.death.Reads as death-reads
+use Rattle.path.proofs.deaths.no_cache.Reads as no-cache-reads
+use Rattle.path.proofs.exits.exit_at.Reads as exit-at-reads
+use Rattle.path.proofs.outcome.is_continued.Reads as is-continued-reads
+use Rattle.path.proofs.outcome.is_death.Reads as is-death-reads
+use Rattle.path.proofs.outcome.judge.Reads as judge-reads
+use Rattle.path.proofs.totals.with_cut.Reads as with-cut-reads
+use Rattle.path.proofs.totals.with_death.Reads as with-death-reads
+use Rattle.path.proofs.totals.with_step.Reads as with-step-reads
 use Rattle.figure.proofs.Figure.of_whole.Reads as of-whole-reads
 use Rattle.model.proofs.index.exit_count.Reads as exit-count-reads
 use Rattle.bounds.proofs.walk.+walk.{statement}
