@@ -84,6 +84,8 @@ class Trace:
         self.wrong.append(f"{self.document}:{line}: {words}")
 
     def file(self, line, path):
+        if path.startswith("target/"):
+            return  # what a build makes
         self.files.add(found(path) or path)
         if found(path) is None:
             self.fail(line, f"there is no file {path}")
