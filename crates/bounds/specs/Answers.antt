@@ -27,7 +27,7 @@ answer-of (Refused f) = answers.refused (number f) (place f)
 pub record Promised (before after : List ℕ) (budget : ℕ) (r : Answer) : Type 0 where
   -- demands 1 and 2: the answer is the definition's, a report with its figures and counts or a refusal with its number and place
   pub answer-is : answer-of r ≡ definition.answer before budget
-  -- as plain values: a refusal's number and place, and every figure and count in it zero
+  -- it follows, as plain values: a refusal's number and place, and every figure and count in it zero
   pub values-are : definition.values (answer-of r) ≡ definition.values (definition.answer before budget)
   -- demand 3: the accuracy rule
   pub accuracy : AccuracyRule before budget (answer-of r)

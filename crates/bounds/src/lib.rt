@@ -84,10 +84,10 @@ fn reported(t: Totals) -> Report
 {
     let lowers = t.lower;
     let died = t.died;
-    let cuts = t.cut;
+    let cut_off = t.cut;
     let lower = lowers.to_nine_down();
-    let upper = died.sum_to_nine_up(cuts);
-    let cut = cuts.to_nine_up();
+    let upper = died.sum_to_nine_up(cut_off);
+    let cut = cut_off.to_nine_up();
     Report {
         lower,
         upper,

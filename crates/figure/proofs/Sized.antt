@@ -13,7 +13,7 @@ use Rattle.fraction.proofs.Signed.{signed, signed-whole, signed-ratio}
 use Rattle.figure.specs.declared.Figure.{Figure}
 use Rattle.figure.specs.Rounding.{figure, none, IsFigure, is-zero, is-whole, up, down}
 use Rattle.figure.specs.Operations.{times-up, times-down, plus-up, plus-down, minus-up, minus-down, divided-up, divided-down, times-ten}
-use Rattle.figure.specs.Operations.{of-whole, of-quantity, total-up, total-down, to-nine-up, to-nine-down, sum-to-nine-up, sum-to-nine-down}
+use Rattle.figure.specs.Operations.{of-whole, of-quantity, total-up, total-down, to-nine-up, to-nine-down, sum-to-nine-up}
 use Rattle.figure.specs.Operands.{Sized, Operand}
 use Rattle.figure.proofs.Scale.{pow-pos, multiple-pos}
 use Rattle.figure.proofs.Value.{val, value-is, Shape, empty, full, shape}
@@ -136,10 +136,6 @@ module _ {m n : ℕ} {t s : Figure} (p : Sized 18 m t) (q : Sized 18 n s) where
   pub sum-to-nine-up-sized : Sized 9 (max m n + 20) (sum-to-nine-up t s)
   unfolding sum-to-nine-up
   sum-to-nine-up-sized = rw (value-plus t s) (up-sized 8 (max m n + 20) (sum-reach p q) (omega arith) (omega arith))
-
-  pub sum-to-nine-down-sized : Sized 9 (max m n + 20) (sum-to-nine-down t s)
-  unfolding sum-to-nine-down
-  sum-to-nine-down-sized = rw (value-plus t s) (down-sized 8 (max m n + 20) (sum-reach p q) (omega arith) (omega arith))
 
 -- ---- exact operations
 

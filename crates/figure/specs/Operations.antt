@@ -67,6 +67,3 @@ to-nine-down t = down 9 (value t)
 
 unfoldable pub sum-to-nine-up : Figure → Figure → Figure
 sum-to-nine-up t s = up 9 (value t +ᶠ value s)
-
-unfoldable pub sum-to-nine-down : Figure → Figure → Figure
-sum-to-nine-down t s = down 9 (value t +ᶠ value s)

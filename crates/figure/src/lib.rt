@@ -177,11 +177,4 @@ impl Figure {
     {
         total::sum_to_nine(true, self, other)
     }
-
-    pub fn sum_to_nine_down(self, other: Figure) -> Figure
-        requires { ⌜ Operand 18 self × Operand 18 other ⌝ }
-        ensures { λ r. ⌜ r ≡ ops.sum-to-nine-down self other ⌝ }
-    {
-        total::sum_to_nine(false, self, other)
-    }
 }

@@ -71,7 +71,7 @@ pub fn with_cut(t: Totals, upper: Figure) -> Totals
     }
 }
 
-// The totals with one step more that ends no path.
+// The totals with one step more, and no ended path.
 pub fn with_step(t: Totals) -> Totals
     requires { ⌜ Counted t × (t .steps ≤ 1000000) ⌝ }
     ensures { λ r. ⌜ totals-of r ≡ running.with-step (totals-of t) ⌝ }

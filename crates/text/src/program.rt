@@ -10,7 +10,7 @@ ghost use Rattle.text.specs.Written.{Holds};
 ghost use Rattle.text.specs.Program.{report-budget, printed};
 ghost use Rattle.text.specs.Faithful.{FaithfulText};
 
-// A buffer for standard input. A read that fills it can stop: `AnswerEnough` of `FaithfulText`.
+// A buffer for standard input; what it holds is free. A read that fills it can stop: `AnswerEnough` of `FaithfulText`.
 pub fn input() -> [u8; 64024]
     ensures { λ r. ⌜ most-bytes ≡ length r ⌝ }
 {

@@ -106,7 +106,8 @@ LeastIsLeast = (e : ℕ) (g : Figure) → Least (reaches e g) 1000000 (least e g
 
 -- ---- divisors
 
--- every divisor of the rounded bounds is above zero: k, k + 1, T2, h' × T, n² × T2 and n × T; n is at least 1 by `LeastIsLeast`
+-- every divisor of the rounded bounds that is not the plain number 2 or 1,000,000 is above zero: k, k + 1, T2, h' × T, n² × T2 and n × T; n is at
+-- least 1 by `LeastIsLeast`
 pub record DivisorsAbove (m : Model) : Type 0 where
   pub number : (t : Transition) (p : Path) → class (m .net) t ≡ class1 → 0 < (of-whole (class1-count (m .net) (t ∷ p))) .digits
   pub number-more : (p : Path) → 0 < (of-whole (class1-count (m .net) p + 1)) .digits

@@ -1,6 +1,6 @@
--- Five definitions stand on both sides of the accuracy rule, in the exact bounds and in the rounded ones: `class`, `grains`, `grain-sum`,
--- `remaining-time` and `exact`. That rule cannot see a fault in them. Here each is held to cases that are worked out by hand from document 01, and
--- one claim says that the definitions agree with all of them. Assumes nothing: these are definitions.
+-- Six definitions stand on both sides of the accuracy rule, in the exact bounds and in the rounded ones: `class`, `class1-count`, `grains`,
+-- `grain-sum`, `remaining-time` and `exact`. That rule cannot see a fault in them. Here each is held to cases that are worked out by hand from
+-- document 01, and one claim says that the definitions agree with all of them. Assumes nothing: these are definitions.
 use Prim.Native.Nat.{ℕ, _^_}
 use mathlib.Core.Path.{_≡_}
 use mathlib.Core.Bool.{Bool, true, _&&_}
@@ -10,7 +10,7 @@ use lib.IntN.{pos}
 use Rattle.fraction.specs.Fraction.{Fraction, whole, ratio, at-most}
 use Rattle.word.specs.declared.Quantity.{Quantity}
 use Rattle.word.specs.Model.{slow, fast, Transition, Net}
-use Rattle.tree.specs.Paths.{Path, Class, class1, class2, class3, class}
+use Rattle.tree.specs.Paths.{Path, Class, class1, class2, class3, class, class1-count}
 use Rattle.tree.specs.Grains.{grains, grain-sum}
 use Rattle.tree.specs.Lower.{exact, remaining-time}
 use Rattle.tree.specs.Marked.{all}
@@ -71,6 +71,8 @@ two-fast = net-of (quantity 3417 3)
 
 pub data Case : Type 0 where
   class-is : Net → Transition → (number : ℕ) → Case
+  -- k of a path
+  count-is : Net → Path → (k : ℕ) → Case
   grains-are : Net → Transition → (n : ℕ) → Case
   -- the grains of a state's only fast exit, of mean m and deviation d, and of a slow exit beside it
   fast-grains-are slow-grains-are : (time m d : Quantity) (n : ℕ) → Case
@@ -92,6 +94,9 @@ pinned-cases =
     -- "Class 3: slow step from a state with fast exits": to 3, with the fast exit later in the table, and to 2, with the fast exit earlier
     ∷ class-is mixed (slow-tenth 2 3) 3
     ∷ class-is mixed (slow-tenth 5 2) 3
+    -- the class 1 steps are 1 to 2 and 4 to 5
+    ∷ count-is mixed mixed-path 2
+    ∷ count-is mixed [] 0
     -- a class 1 step has no grains
     ∷ grains-are mixed (slow-tenth 1 2) 0
     -- M = (1.6E-4)² = 2.56E-8 and T2 = 100: g = 10^18 × 5.12E-8 / 100 = 512,000,000 = 800³
@@ -104,11 +109,13 @@ pinned-cases =
     -- T 10, m 10, d 10, so M = 200: g = 10^18 × 400 / 100 = 4 × 10^18 and g = 10^12 × 200 / 100 = 2 × 10^12; none below 1,000,000 will do
     ∷ fast-grains-are (quantity 10 0) (quantity 10 0) (quantity 10 0) 1000000
     ∷ slow-grains-are (quantity 10 0) (quantity 10 0) (quantity 10 0) 1000000
-    -- Class 2 where the other rounding of m², d², their sum, 2 × M, T × T or the quotient would make n 708,853. T 6.00843, m 2.53503, d 0.053633:
+    -- Class 2 where the other rounding of m², the sum of m² and d², 2 × M, T × T or the quotient would make n 708,853. T 6.00843, m 2.53503, d 0.053633:
     -- m² = 6.4263771009, up 6.42637711; d² = 0.002876498689, up 0.00287649869; M = 6.42925360869, up 6.42925361; 2 × M = 12.85850722, up 12.8585073;
     -- T × T = 36.1012310649, down 36.1012310; the quotient 0.35617919233.., up 0.356179193. 708,853³ = 356,179,192,638,166,477 is below
     -- g = 356,179,193,000,000,000, and 708,854³ is above it.
     ∷ fast-grains-are (quantity 600843 5) (quantity 253503 5) (quantity 53633 6) 708854
+    -- with mean and deviation exchanged M is the same, and it is the other rounding of d² that would make n 708,853
+    ∷ fast-grains-are (quantity 600843 5) (quantity 53633 6) (quantity 253503 5) 708854
     -- Class 3 where the other rounding of h' (that is h), h' × T, H or the quotient would make n 279,131. T 3.417, exits (0.07365, 0, 0.666667) and
     -- (0.347796, 0, 0.333333). q × m: 0.04910002455, down 0.0491000245, and 0.115931884068, down 0.115931884; h' = 0.1650319085, down 0.165031908;
     -- h' × T = 0.563914029636, down 0.563914029. M: 0.0054243225, and 0.120962057616, up 0.120962058; q × M: 0.0036162168081.., up 0.00361621681, and
@@ -145,6 +152,7 @@ same-fraction x y = at-most x y && at-most y x
 
 unfoldable pub case-agrees : Case → Bool
 case-agrees (class-is net t n) = eqb (class-number (class net t)) n
+case-agrees (count-is net p k) = eqb (class1-count net p) k
 case-agrees (grains-are net t n) = eqb (grains net [] t) n
 case-agrees (fast-grains-are time m d n) = eqb (grains (beside time m d) [] (sure-exit m d)) n
 case-agrees (slow-grains-are time m d n) = eqb (grains (beside time m d) [] (slow-tenth 1 2)) n

@@ -22,7 +22,7 @@ pub record Totals : Type 0 where
 abbrev pub zero-totals : Totals
 zero-totals = record { lower = none; death-upper = none; cut-upper = none; deaths = 0; cuts = 0; steps = 0 }
 
--- one more step that ended in nothing
+-- one more step, and no ended path
 unfoldable pub with-step : Totals → Totals
 with-step a = record {
   lower = a .lower;
