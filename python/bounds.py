@@ -15,6 +15,7 @@ a report, whatever the module does not know is an exception, and a library of an
 import ctypes
 import functools
 import math
+import operator
 import os
 import re
 from array import array
@@ -87,6 +88,8 @@ class Figure:
     power: int
 
     def __post_init__(self):
+        if type(self.digits) is not int or type(self.power) is not int:
+            raise TypeError("the digits and the power of a figure are whole numbers")
         nine = 100000000 <= self.digits <= 999999999 and -(2**31) <= self.power < 2**31
         if not nine and (self.digits, self.power) != (0, 0):
             raise ValueError(f"{self.digits} and {self.power} are no figure")
@@ -97,7 +100,7 @@ class Figure:
         spaces, other spellings of zero, and more than nine digits from the first that is not 0. Nothing is rounded."""
         if spelled == "0":
             return cls(0, 0)
-        match = re.fullmatch(r"([0-9]+)(?:\.([0-9]+))?(?:[eE]([+-]?[0-9]{1,11}))?", spelled)
+        match = re.fullmatch(r"([0-9]+)(?:\.([0-9]+))?(?:[eE]([+-]?0*[0-9]{1,11}))?", spelled)
         whole, part, exponent = match.groups() if match else ("", "", "")
         digits = ((whole or "") + (part or "")).lstrip("0")
         if not 1 <= len(digits) <= 9:
@@ -170,13 +173,21 @@ class Library:
 
     def __init__(self, path=None):
         folder = os.environ.get("BOUNDS_LIBRARY") or Path(__file__).resolve().parent.parent / "target" / "lib"
-        self._library = ctypes.CDLL(str(path or Path(folder) / "libbounds.so"))
-        for name, (result, arguments) in self._CALLS.items():
-            function = getattr(self._library, name)
-            function.restype, function.argtypes = result, arguments
-        version = self._library.bounds_version()
+        self._library = ctypes.CDLL(os.path.abspath(path or Path(folder) / "libbounds.so"))
+        version = self._call("bounds_version")()
         if version != VERSION:
             raise OtherVersion(version)
+        for name in self._CALLS:
+            self._call(name)
+
+    def _call(self, name):
+        """A function of the library with its types. A library that does not have it is no library of this version."""
+        try:
+            function = getattr(self._library, name)
+        except AttributeError:
+            raise Error(f"{self._library._name} has no {name}: it is no library of bounds {_spelled(VERSION)}") from None
+        function.restype, function.argtypes = self._CALLS[name]
+        return function
 
     def assess(self, words, budget=MOST_BUDGET):
         """The report on a model's words. Raises Refused, or another Error."""
@@ -200,8 +211,10 @@ class Library:
 
     def words_of(self, model):
         """The words of a model that is held as bytes, four bytes a word, least significant first; left-over bytes are one more word, of no kind."""
-        words = (ctypes.c_uint32 * WORDS_SIZE)()
-        lent = (ctypes.c_uint8 * max(1, len(model))).from_buffer_copy(bytes(model) or b"\0")
+        if isinstance(model, int):
+            raise TypeError("a model's bytes are expected, not a number")
+        words, model = (ctypes.c_uint32 * WORDS_SIZE)(), bytes(model)
+        lent = (ctypes.c_uint8 * max(1, len(model))).from_buffer_copy(model or b"\0")
         return list(words[: self._library.bounds_words(lent, len(model), words)])
 
     def at_or_below(self, figure, limit):
@@ -221,6 +234,7 @@ def _lent(words):
 
 def _budget(budget):
     """ctypes would cut a number to 64 bits."""
-    if not isinstance(budget, int) or not 0 <= budget < 2**64:
+    number = operator.index(budget) if hasattr(budget, "__index__") else -1
+    if not 0 <= number < 2**64:
         raise ValueError(f"the budget {budget!r} is no whole number of 64 bits")
-    return budget
+    return number

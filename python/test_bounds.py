@@ -1,9 +1,11 @@
 """Tests of bounds.py: python3 python/test_bounds.py, once tools/archive has made the shared library."""
+import _ctypes
 import doctest
 import math
 import sys
 import threading
 import unittest
+from array import array
 from fractions import Fraction
 from pathlib import Path
 
@@ -58,6 +60,23 @@ class Calls(unittest.TestCase):
         self.assertEqual(self.library.words_of(b""), [])
         self.assertEqual(self.library.words_of(b"\1\2\3\4\5"), [0x04030201, 0])
         self.assertEqual(len(self.library.words_of(bytes(100000))), 16006)
+        # the bytes of a buffer count, not its items
+        self.assertEqual(self.library.words_of(array("I", MODEL_A)), MODEL_A)
+        with self.assertRaises(TypeError):
+            self.library.words_of(5)
+
+    def test_budget_of_any_whole_number(self):
+        class Whole:
+            def __index__(self):
+                return 1
+
+        self.assertEqual(self.library.assess(MODEL_A, Whole()), self.library.assess(MODEL_A, 1))
+
+    def test_another_library(self):
+        with self.assertRaises(bounds.Error):
+            bounds.Library(_ctypes.__file__)
+        with self.assertRaises(OSError):
+            bounds.Library("no-such-library.so")
 
     def test_threads(self):
         expected, found = str(self.library.assess(MODEL_A)), []
@@ -82,9 +101,12 @@ class Figures(unittest.TestCase):
         for digits, power in ((0, 1), (1, 0), (99999999, 0), (1000000000, 0), (100000000, 2**31), (-100000000, 0)):
             with self.assertRaises(ValueError):
                 bounds.Figure(digits, power)
+        for digits, power in ((100000000.5, 0), (100000000, 1.5), ("100000000", 0), (True, 0)):
+            with self.assertRaises(TypeError):
+                bounds.Figure(digits, power)
 
     def test_spellings(self):
-        for spelled in ("1.00000000E-9", "1E-9", "1e-09", "0.000000001", "10E-10"):
+        for spelled in ("1.00000000E-9", "1E-9", "1e-09", "1E-00000000000009", "0.000000001", "10E-10"):
             self.assertEqual(bounds.Figure.parse(spelled), bounds.Figure(100000000, -17))
         for digits, power in ((123456789, -2000), (999999999, 2**31 - 1), (100000000, -(2**31)), (0, 0)):
             figure = bounds.Figure(digits, power)

@@ -6,11 +6,11 @@ use std::path::PathBuf;
 fn main() {
     println!("cargo:rerun-if-env-changed=BOUNDS_LIBRARY");
     let root = PathBuf::from(env::var_os("CARGO_MANIFEST_DIR").unwrap_or_default());
-    let folder =
-        env::var_os("BOUNDS_LIBRARY").map_or_else(|| root.join("../target/lib"), PathBuf::from);
+    let named = env::var_os("BOUNDS_LIBRARY").filter(|name| !name.is_empty());
+    let folder = root.join(named.map_or_else(|| PathBuf::from("../target/lib"), PathBuf::from));
     let Ok(archive) = folder.join("libbounds.a").canonicalize() else {
         eprintln!(
-            "{} has no libbounds.a: run `tools/archive` in the repository, or let BOUNDS_LIBRARY name a folder that has one",
+            "{} has no libbounds.a: run `tools/archive` in the repository, or let BOUNDS_LIBRARY name a folder that has one, by its whole path",
             folder.display()
         );
         std::process::exit(1);
