@@ -1,5 +1,6 @@
 //! Options and files of a subcommand.
 
+use crate::echo::shown;
 use crate::Failure;
 
 /// What a subcommand takes: options without a value, options with one, and the names of what stands without an option.
@@ -35,6 +36,7 @@ impl Takes {
             } else if self.flags.contains(&name) && inside.is_none() {
                 ""
             } else {
+                let argument = shown(argument);
                 return Err(Failure::new(format!("{argument} is no option; {}", self.known())));
             };
             if arguments.value(name).is_some() {
@@ -43,15 +45,9 @@ impl Takes {
             arguments.options.push((name, value));
         }
         if arguments.files.len() != self.files.len() {
-            let expected =
-                if self.files.is_empty() { "nothing".into() } else { self.files.join(" ") };
+            let (expected, found) = (list(self.files), list(&arguments.files));
             return Err(Failure::new(format!(
-                "expected {expected} beside the options, not {}",
-                if arguments.files.is_empty() {
-                    "nothing".into()
-                } else {
-                    arguments.files.join(" ")
-                }
+                "expected {expected} beside the options, not {found}"
             )));
         }
         Ok(arguments)
@@ -65,6 +61,15 @@ impl Takes {
         } else {
             format!("there are {}", names.join(", "))
         }
+    }
+}
+
+fn list(files: &[&str]) -> String {
+    let files: Vec<String> = files.iter().map(|file| shown(file)).collect();
+    if files.is_empty() {
+        "nothing".into()
+    } else {
+        files.join(" ")
     }
 }
 
@@ -83,7 +88,10 @@ impl<'a> Arguments<'a> {
             return Ok(bounds::MOST_BUDGET);
         };
         whole_number(spelled).ok_or_else(|| {
-            Failure::new(format!("--budget {spelled}: expected a whole number, such as 1000000"))
+            let (spelled, most) = (shown(spelled), u64::MAX);
+            Failure::new(format!(
+                "--budget {spelled}: expected a whole number of at most {most}, such as 1000000"
+            ))
         })
     }
 }

@@ -28,10 +28,7 @@ fn fast_exits(model: &Model, state: u64) -> Vec<Spot> {
 pub fn text(model: &Model, refusal: Refusal) -> String {
     let mut lines = vec![refusal.to_string(), refusal.sentence().to_string()];
     for spot in spots(model, refusal) {
-        lines.push(match spot {
-            Spot::Line(line, text) => format!("  {}:{line}: {text}", model.file),
-            Spot::Word(at, word) => format!("  {}: word {at}: {word:08X}", model.file),
-        });
+        lines.push(format!("  {}: {}", model.place(&spot), spot.text()));
     }
     lines.push(format!("Look at: {}", refusal.reason.advice()));
     lines.join("\n")
@@ -39,18 +36,7 @@ pub fn text(model: &Model, refusal: Refusal) -> String {
 
 /// The same for programs.
 pub fn object(model: &Model, refusal: Refusal) -> String {
-    let spots: Vec<String> = spots(model, refusal)
-        .into_iter()
-        .map(|spot| match spot {
-            Spot::Line(line, text) => {
-                json::object(&[("line", line.to_string()), ("text", json::string(&text))])
-            }
-            Spot::Word(at, word) => json::object(&[
-                ("word", at.to_string()),
-                ("text", json::string(&format!("{word:08X}"))),
-            ]),
-        })
-        .collect();
+    let spots: Vec<String> = spots(model, refusal).iter().map(spot_object).collect();
     json::object(&[
         ("answer", json::string("refused")),
         ("number", refusal.reason.number().to_string()),
@@ -59,4 +45,17 @@ pub fn object(model: &Model, refusal: Refusal) -> String {
         ("spots", json::array(&spots)),
         ("advice", json::string(refusal.reason.advice())),
     ])
+}
+
+/// The line, the word's place, or both where the file has words on lines; and what stands there.
+fn spot_object(spot: &Spot) -> String {
+    let (line, word) = match spot {
+        Spot::Line(line, _) => (Some(*line), None),
+        Spot::Word { at, line, .. } => (*line, Some(*at)),
+    };
+    let mut fields = Vec::new();
+    fields.extend(line.map(|line| ("line", line.to_string())));
+    fields.extend(word.map(|at| ("word", at.to_string())));
+    fields.push(("text", json::string(&spot.text())));
+    json::object(&fields)
 }

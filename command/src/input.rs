@@ -2,8 +2,9 @@
 //!
 //! The three cannot be taken for one another. Bytes begin with a head word, whose fourth byte is a control character that no text has. Digits are
 //! eight hexadecimal ones to a word, and no name of a readable line is so spelled. What is none of the three is an error; `--as` says what a file is
-//! to be read as.
+//! to be read as. A text that begins as a model does and then has a byte that no text has is an error that names the line of that byte.
 
+use crate::echo::shown;
 use crate::model::{kind, text, words, Fault};
 use crate::Failure;
 use std::fs::File;
@@ -11,6 +12,9 @@ use std::io::{self, Read};
 
 /// A file of more bytes is no model.
 const MOST_BYTES: u64 = 1 << 24;
+
+/// What some editors put before a text; it is passed over.
+const BYTE_ORDER_MARK: &[u8] = b"\xEF\xBB\xBF";
 
 /// What a file holds.
 #[derive(Clone, Copy, Debug, PartialEq, Eq)]
@@ -27,19 +31,20 @@ pub enum Form {
 pub struct Model {
     pub file: String,
     pub words: Vec<u32>,
+    form: Form,
     /// The text of lines or digits.
-    text: Option<String>,
+    text: String,
     /// The line of each word, in a text.
     lines: Vec<usize>,
     /// The line that names the start state, in readable lines.
     start: Option<usize>,
 }
 
-/// A place in the file: a line, or where there are no lines a word.
+/// A place in the file: a readable line, or else a word and, of digits, its line.
 #[derive(Clone, Debug, PartialEq, Eq)]
 pub enum Spot {
     Line(usize, String),
-    Word(usize, u32),
+    Word { at: usize, word: u32, line: Option<usize> },
 }
 
 impl Form {
@@ -51,6 +56,7 @@ impl Form {
             Some("digits") => Ok(Some(Form::Digits)),
             Some("bytes") => Ok(Some(Form::Bytes)),
             Some(other) => {
+                let other = shown(other);
                 Err(Failure::new(format!("--as {other}: expected lines, digits or bytes")))
             }
         }
@@ -61,12 +67,13 @@ impl Form {
         if bytes.get(3).is_some_and(|byte| u32::from(byte >> 4) == kind::HEAD) {
             return Some(Form::Bytes);
         }
-        let text = std::str::from_utf8(bytes).ok()?;
-        if text.chars().any(|c| c.is_control() && !c.is_whitespace()) {
-            return None;
+        let bytes = unmarked(bytes);
+        let plain = plain(bytes);
+        let first = plain.split_whitespace().next()?;
+        if words::word_of(first).is_some() {
+            return Some(Form::Digits);
         }
-        let first = text.split_whitespace().next()?;
-        Some(if words::word_of(first).is_some() { Form::Digits } else { Form::Lines })
+        (plain.len() == bytes.len() || text::begins(first)).then_some(Form::Lines)
     }
 }
 
@@ -84,7 +91,8 @@ impl Model {
         let empty = Model {
             file: file.into(),
             words: Vec::new(),
-            text: None,
+            form,
+            text: String::new(),
             lines: Vec::new(),
             start: None,
         };
@@ -92,24 +100,28 @@ impl Model {
             let mut room = [0; bounds::WORDS_SIZE];
             return Ok(Model { words: bounds::words_of(&bytes, &mut room)?.to_vec(), ..empty });
         }
-        let text =
-            String::from_utf8(bytes).map_err(|_| Failure::in_file(file, "expected UTF-8 text"))?;
         let in_line = |fault: Fault| Failure::in_line(file, fault.at, fault.why);
+        let text = text_of(&bytes, form).map_err(in_line)?.to_string();
         if form == Form::Digits {
             let (words, lines) = words::of_digits(&text).map_err(in_line)?;
-            return Ok(Model { words, lines, text: Some(text), ..empty });
+            return Ok(Model { words, lines, text, ..empty });
         }
         let text::Written { words, lines, start } = text::words_of(&text).map_err(in_line)?;
-        Ok(Model { words, lines, start: Some(start), text: Some(text), ..empty })
+        Ok(Model { words, lines, start: Some(start), text, ..empty })
     }
 
     /// Where the word at a place stood; none behind the last word.
     pub fn spot(&self, at: usize) -> Option<Spot> {
         let &word = self.words.get(at)?;
-        match self.lines.get(at) {
-            Some(&line) => Some(self.line(line)),
-            None => Some(Spot::Word(at, word)),
+        match self.lines.get(at).copied() {
+            Some(line) if self.form == Form::Lines => Some(self.line(line)),
+            line => Some(Spot::Word { at, word, line }),
         }
+    }
+
+    /// The line that the word at a place stood in, its number and its text; none in bytes.
+    pub fn line_of(&self, at: usize) -> Option<(usize, &str)> {
+        self.lines.get(at).map(|&line| (line, self.text_in(line)))
     }
 
     /// Where the start state stood.
@@ -118,17 +130,72 @@ impl Model {
     }
 
     fn line(&self, line: usize) -> Spot {
-        let text = self.text.as_deref().unwrap_or_default();
-        Spot::Line(line, text.lines().nth(line - 1).unwrap_or_default().trim().into())
+        Spot::Line(line, self.text_in(line).into())
+    }
+
+    fn text_in(&self, line: usize) -> &str {
+        self.text.lines().nth(line - 1).unwrap_or_default().trim()
+    }
+
+    /// The file and the place in it, for a message.
+    pub fn place(&self, spot: &Spot) -> String {
+        let file = &self.file;
+        match spot {
+            Spot::Line(line, _) => format!("{file}:{line}"),
+            Spot::Word { at, line: Some(line), .. } => format!("{file}:{line}: word {at}"),
+            Spot::Word { at, line: None, .. } => format!("{file}: word {at}"),
+        }
     }
 
     /// The same as readable lines; words that no lines spell are an error.
     pub fn spelled(&self) -> Result<String, Failure> {
-        words::text_of(&self.words).map_err(|fault| match self.spot(fault.at) {
-            Some(Spot::Line(line, _)) => Failure::in_line(&self.file, line, fault.why),
-            _ => Failure::in_file(&self.file, format!("word {}: {}", fault.at, fault.why)),
+        words::text_of(&self.words).map_err(|fault| {
+            let place = match self.spot(fault.at) {
+                Some(spot) => self.place(&spot),
+                None => format!("{}: word {}", self.file, fault.at),
+            };
+            Failure::in_file(&place, fault.why)
         })
     }
+}
+
+impl Spot {
+    /// What stands there.
+    pub fn text(&self) -> String {
+        match self {
+            Spot::Line(_, text) => text.clone(),
+            Spot::Word { word, .. } => format!("{word:08X}"),
+        }
+    }
+}
+
+fn unmarked(bytes: &[u8]) -> &[u8] {
+    bytes.strip_prefix(BYTE_ORDER_MARK).unwrap_or(bytes)
+}
+
+/// The text up to where UTF-8 ends.
+fn utf8(bytes: &[u8]) -> &str {
+    bytes.utf8_chunks().next().map_or("", |chunk| chunk.valid())
+}
+
+/// The text up to the first byte that no text has: one that is not UTF-8, or a control character that is no space.
+fn plain(bytes: &[u8]) -> &str {
+    let text = utf8(bytes);
+    let end = text.find(|c: char| c.is_control() && !c.is_whitespace());
+    &text[..end.unwrap_or(text.len())]
+}
+
+/// All of the text. Where it is none, what is wrong first is named.
+fn text_of(bytes: &[u8], form: Form) -> Result<&str, Fault> {
+    let bytes = unmarked(bytes);
+    let text = utf8(bytes);
+    let Some(byte) = bytes.get(text.len()) else {
+        return Ok(text);
+    };
+    let line = 1 + text.matches('\n').count();
+    let fault = Fault::new(line, format!("byte {byte:02X}: expected UTF-8"));
+    let earlier = if form == Form::Lines { text::stray(text) } else { None };
+    Err(earlier.unwrap_or(fault))
 }
 
 fn bytes_in(file: &str) -> Result<Vec<u8>, Failure> {
@@ -197,11 +264,49 @@ mod tests {
         assert_eq!(model.start(), Some(Spot::Line(4, "start 1".into())));
         assert_eq!(model.spot(7), None);
         let model = read(b"11002001 2000000A\n30000000")?;
-        assert_eq!(model.spot(2), Some(Spot::Line(2, "30000000".into())));
+        assert_eq!(model.spot(2), Some(Spot::Word { at: 2, word: 0x30000000, line: Some(2) }));
+        assert_eq!(model.line_of(1), Some((1, "11002001 2000000A")));
         let model = read(&words::bytes_of(&MODEL_A))?;
-        assert_eq!(model.spot(4), Some(Spot::Word(4, 0x50001002)));
-        assert_eq!(model.start(), Some(Spot::Word(0, 0x11002001)));
+        assert_eq!(model.spot(4), Some(Spot::Word { at: 4, word: 0x50001002, line: None }));
+        assert_eq!(model.start(), Some(Spot::Word { at: 0, word: 0x11002001, line: None }));
+        assert_eq!(model.line_of(4), None);
         Ok(())
+    }
+
+    /// A byte order mark is passed over, and is no bytes' beginning.
+    #[test]
+    fn byte_order_mark() -> Result<(), Failure> {
+        for text in [LINES_A, &words::hex_of(&MODEL_A)] {
+            let marked = [BYTE_ORDER_MARK, text.as_bytes()].concat();
+            assert_eq!(read(&marked)?.words, MODEL_A);
+            assert_eq!(read(&marked)?.spot(7), None);
+        }
+        let marked = [BYTE_ORDER_MARK, LINES_A.as_bytes()].concat();
+        assert_eq!(Model::of("f", marked, Some(Form::Lines))?.words, MODEL_A);
+        assert!(read(BYTE_ORDER_MARK).is_err());
+        assert!(read(&[BYTE_ORDER_MARK, BYTE_ORDER_MARK, LINES_A.as_bytes()].concat()).is_err());
+        Ok(())
+    }
+
+    /// The line of the first byte that no text has, where the file begins as a model does.
+    #[test]
+    fn bad_bytes() {
+        for (bytes, expected) in [
+            (&b"# a\n# b\xe9\n# c\0\n"[..], "f:2: byte E9: expected UTF-8"),
+            (b"states 2\0", "f:1: control character U+0000: expected lines"),
+            (b"states 2\n\nstart 1\x7f\n\xff", "f:3: control character U+007F: expected lines"),
+            (b"\xEF\xBB\xBF# a\n\n\xff", "f:3: byte FF: expected UTF-8"),
+            (b"states 2\xe2\x80", "f:1: byte E2: expected UTF-8"),
+            (b"11002001\n2000000A\xff", "f:2: byte FF: expected UTF-8"),
+            (b"11002001\x0b\n2000000A\xff", "f:2: byte FF: expected UTF-8"),
+            (b"11002001\n2000000A\0", "f:2: 2000000A\\u{0} is no word of eight"),
+            (b"PK\x03\x04", "f: expected a model in readable lines, or words"),
+            (b"GIF89a\n\0", "f: expected a model in readable lines, or words"),
+            (b"\xff\xfes\0t\0a\0", "f: expected a model in readable lines, or words"),
+        ] {
+            let said = read(bytes).err().map_or(String::new(), |failure| failure.0);
+            assert!(said.starts_with(expected), "{said}");
+        }
     }
 
     /// Left-over bytes are a word of no kind, which the library refuses and no lines spell.

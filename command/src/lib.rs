@@ -3,9 +3,11 @@
 //! - [`subcommands`]: one module for each, and the list of them
 //! - [`arguments`], [`input`]: what the user hands over; what is not understood is an error, with the file, the line and what was expected
 //! - [`model`]: a model in readable lines, as words and back
+//! - [`echo`]: what the user handed over, in a message
 //! - [`explain`]: a refusal as a sentence, with the lines that it speaks of
 
 pub mod arguments;
+pub mod echo;
 pub mod explain;
 pub mod input;
 mod json;
@@ -81,6 +83,7 @@ pub fn run(arguments: &[&str], out: &mut dyn Write) -> Done {
     }
     let Some(subcommand) = subcommands::ALL.iter().find(|subcommand| subcommand.name == name)
     else {
+        let name = echo::shown(name);
         return Err(Failure::new(format!("{name} is no subcommand\n{}", usage())));
     };
     if rest.contains(&"--help") || rest.contains(&"-h") {
@@ -109,6 +112,6 @@ fn usage() -> String {
     let lines: String = subcommands::ALL.iter().map(line).collect();
     format!(
         "usage:\n{lines}  bounds --version\n\
-         bounds SUBCOMMAND --help says more. Exit status: 0 report, 1 refusal, 2 usage or input."
+         bounds SUBCOMMAND --help says more. Exit status: 0 report, 1 refusal, 2 usage or input, 3 upper is above --at-most."
     )
 }

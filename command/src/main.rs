@@ -1,5 +1,6 @@
 //! `bounds SUBCOMMAND ..`.
 
+use bounds_command::echo::shown;
 use std::io::{self, BufWriter, Write};
 use std::process::ExitCode;
 
@@ -8,7 +9,7 @@ fn main() -> ExitCode {
         match std::env::args_os().skip(1).map(|a| a.into_string()).collect() {
             Ok(arguments) => arguments,
             Err(argument) => {
-                eprintln!("bounds: {} is not UTF-8", argument.to_string_lossy());
+                eprintln!("bounds: {} is not UTF-8", shown(&argument.to_string_lossy()));
                 return ExitCode::from(2);
             }
         };

@@ -65,11 +65,32 @@ fn refusals() -> Tested {
     assert!(out.contains("\nLook at: "), "{out}");
     let (status, out, _) = said(&["report", "-"], &DIGITS_A.replace("60400001", "60400000"))?;
     assert_eq!(status, 1);
-    assert!(out.contains("The quantity in word 5 is out of range.\n  -:1: "), "{out}");
+    let expected = "The quantity in word 5 is out of range.\n  -:1: word 5: 60400000\nLook at: ";
+    assert!(out.contains(expected), "{out}");
     let (status, out, _) = said(&["report", "-", "--json"], "11002001")?;
     assert_eq!(status, 1);
     assert!(out.starts_with("{\"answer\": \"refused\", \"number\": 3, \"place\": 1, "), "{out}");
     assert_eq!(said(&["report", "-", "--budget", "0"], DIGITS_A)?.0, 1);
+    Ok(())
+}
+
+/// Words on one line are marked one by one; `bounds line` still says the line.
+#[test]
+fn refusals_of_digits() -> Tested {
+    let digits = said(&["words", "--hex", "examples/marked/g.txt"], "")?.1.replace('\n', " ");
+    let (status, out, _) = said(&["report", "-"], &digits)?;
+    assert_eq!(status, 1);
+    let spots: Vec<&str> = out.lines().filter(|line| line.starts_with("  ")).collect();
+    let expected = ["word 4: 70001002", "word 8: 70001003", "word 12: 70001004"];
+    assert_eq!(spots, expected.map(|spot| format!("  -:1: {spot}")));
+    let (_, out, _) = said(&["report", "-", "--json"], &digits)?;
+    assert!(out.contains("[{\"line\": 1, \"word\": 4, \"text\": \"70001002\"}, "), "{out}");
+    let bytes = run(&["words", "examples/marked/g.txt"], b"")?.stdout;
+    let out = String::from_utf8(run(&["report", "-", "--json"], &bytes)?.stdout)?;
+    assert!(out.contains("[{\"word\": 4, \"text\": \"70001002\"}, "), "{out}");
+    assert_eq!(said(&["line", "-", "4"], &digits)?.1, format!("1: {}\n", digits.trim()));
+    let (status, _, error) = said(&["text", "-"], &format!("{digits} 00000000"))?;
+    assert_eq!((status, error.as_str()), (2, "bounds: -:1: word 17: a word follows the end\n"));
     Ok(())
 }
 
@@ -90,6 +111,26 @@ fn what_is_no_input() -> Tested {
         (&["report"], "", "bounds: expected FILE"),
         (&["text", "-"], "11002001 2000000A", "bounds: -: word 2: the words end"),
         (&["line", "-", "7"], DIGITS_A, "bounds: -: 7 is no place: expected 0 to 6"),
+        (
+            &["line", "-", "0", "--as", "digits"],
+            "",
+            "bounds: -: 0 is no place: the file has no words\n",
+        ),
+        (
+            &["line", "-", "0", "--as", "bytes"],
+            "",
+            "bounds: -: 0 is no place: the file has no words\n",
+        ),
+        (
+            &["report", "-", "--as", "lines"],
+            "# a comment\rstates 2\n",
+            "bounds: -:1: line break U+000D: expected lines that end in LF or CR LF",
+        ),
+        (
+            &["report", "-", "--budget", "18446744073709551616"],
+            DIGITS_A,
+            "bounds: --budget 18446744073709551616: expected a whole number of at most 18446744073709551615, such as 1000000\n",
+        ),
         (&["sweep", "-"], DIGITS_A, "bounds: expected one of --time, "),
         (
             &["sweep", "-", "--time", "1", "--prune", "0"],
@@ -105,6 +146,51 @@ fn what_is_no_input() -> Tested {
         let (status, out, error) = said(arguments, input)?;
         assert_eq!((status, out.as_str()), (2, ""), "{arguments:?}");
         assert!(error.starts_with(expected), "{arguments:?}: {error}");
+    }
+    Ok(())
+}
+
+/// A zero is a zero whatever its exponent, and at once.
+#[test]
+fn zeros() -> Tested {
+    let lines = std::fs::read_to_string("../examples/marked/a.txt")?;
+    for zero in ["0e2147483647", "0e-2147483648"] {
+        let lines = lines.replace("prune 0", &format!("prune {zero}"));
+        assert_eq!(said(&["report", "-"], &lines)?, (0, REPORT_A.into(), "".into()));
+    }
+    for zero in ["0", "0e-1", "0e-20"] {
+        let lines = lines.replace("prune 0", &format!("prune {zero}"));
+        let digits = said(&["words", "--hex", "-"], &lines)?.1;
+        let text = said(&["text", "-"], &digits)?.1;
+        assert!(text.contains(&format!("\nprune {zero}\n")), "{text}");
+    }
+    Ok(())
+}
+
+/// What is echoed is cut.
+#[test]
+fn echoes() -> Tested {
+    let long = "9".repeat(1000);
+    let cut = format!("{}..", "9".repeat(40));
+    let head = std::fs::read_to_string("../examples/marked/a.txt")?;
+    for (arguments, input, expected) in [
+        (&["report", "-"][..], format!("{long} 1\n"), format!("-:1: {cut} is no name of a line")),
+        (&["report", "-"], format!("states {long}\n"), format!("-:1: {cut} is no whole number")),
+        (&["report", "-"], format!("time {long}\n"), format!("-:1: {cut} needs more than six")),
+        (&["report", "-"], format!("time x{long}\n"), format!("-:1: x{}.. is no", &long[..39])),
+        (&["report", "-"], format!("11002001 {long}"), format!("-:1: {cut} is no word of eight")),
+        (&["line", "-", &long], head.clone(), format!("-: {cut} is no place: expected 0 to 6")),
+        (&["report", "-", "--at-most", &long], "".into(), format!("--at-most {cut}: ")),
+        (&["report", "-", "--budget", &long], "".into(), format!("--budget {cut}: expected")),
+        (&["report", "-", "--as", &long], "".into(), format!("--as {cut}: expected lines")),
+        (&["sweep", "-", "--rate", &long], head.clone(), format!("--rate {cut}: expected INDEX")),
+        (&["sweep", "-", "--step-limit", &long], head, format!("--step-limit: \"{cut}\" is no")),
+        (&["answers", &long], "".into(), format!("expected nothing beside the options, not {cut}")),
+        (&[&long], "".into(), format!("{cut} is no subcommand")),
+    ] {
+        let (status, out, error) = said(arguments, &input)?;
+        assert_eq!((status, out.as_str()), (2, ""), "{arguments:?}");
+        assert!(error.starts_with(&format!("bounds: {expected}")), "{error}");
     }
     Ok(())
 }
@@ -140,6 +226,30 @@ fn sweeps() -> Tested {
     Ok(())
 }
 
+/// The plot is not written over the model, by whatever name.
+#[test]
+fn plots_over_models() -> Tested {
+    let folder = std::env::temp_dir().join(format!("bounds-plot-{}", std::process::id()));
+    std::fs::create_dir(&folder)?;
+    let model = folder.join("m.txt");
+    std::fs::write(&model, DIGITS_A)?;
+    let model = model.to_str().ok_or("a name")?;
+    let other = folder.join("./m.txt");
+    let other = other.to_str().ok_or("a name")?;
+    for plot in [model, other] {
+        let (status, out, error) = said(&["sweep", model, "--time", "1", "--svg", plot], "")?;
+        assert_eq!((status, out.as_str()), (2, ""));
+        assert!(error.ends_with(": expected another file than the model's own\n"), "{error}");
+    }
+    let mut from_input = Command::new(env!("CARGO_BIN_EXE_bounds"));
+    from_input.args(["sweep", "-", "--time", "1", "--svg", model]);
+    let output = from_input.stdin(std::fs::File::open(model)?).output()?;
+    assert_eq!(output.status.code(), Some(2));
+    assert_eq!(std::fs::read_to_string(model)?, DIGITS_A);
+    std::fs::remove_dir_all(&folder)?;
+    Ok(())
+}
+
 #[test]
 fn help_and_version() -> Tested {
     let version = env!("CARGO_PKG_VERSION");
@@ -147,6 +257,7 @@ fn help_and_version() -> Tested {
     assert_eq!(said(&["--version"], "")?, (0, expected, "".into()));
     let (status, usage, _) = said(&["--help"], "")?;
     assert_eq!(status, 0);
+    assert!(usage.ends_with(", 2 usage or input, 3 upper is above --at-most.\n"), "{usage}");
     for name in ["report", "sweep", "words", "text", "line", "answers"] {
         assert!(usage.contains(&format!("  bounds {name}")), "{name}");
         let (status, help, _) = said(&[name, "--help"], "")?;

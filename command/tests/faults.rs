@@ -35,6 +35,46 @@ fn lines() {
     }
 }
 
+/// A line ends in LF or CR LF, and no other break hides what follows it behind a comment.
+#[test]
+fn breaks() {
+    let crlf = format!("{HEAD}\tslow 1 2 1e-4\t# a\n").replace('\n', "\r\n");
+    assert_eq!(line(&crlf), 0);
+    for c in ["\r", "\x0b", "\x0c", "\u{85}", "\u{2028}", "\u{2029}"] {
+        let text = format!("{HEAD}slow 1 2 1e-4 # a{c}slow 2 3 1e-4\n");
+        let fault = text::words_of(&text).err().map_or((0, String::new()), |f| (f.at, f.why));
+        assert_eq!(fault.0, 7, "{c:?}");
+        assert!(fault.1.starts_with("line break U+"), "{}", fault.1);
+        assert!(fault.1.contains(": expected lines that end in LF or CR LF"), "{}", fault.1);
+    }
+    for (rest, at) in [
+        ("slow 1 2 1e-4\n\nslow 2 3\r1e-4\n", 9),
+        ("slow 1 2 1e-4\r\r\n", 7),
+        ("slow 1 2 1e-4\r", 7),
+        ("# \0\n", 7),
+        ("# \x1b[2J\n", 7),
+        ("# \x7f\n", 7),
+        ("# \u{9b}\n", 7),
+    ] {
+        assert_eq!(line(&format!("{HEAD}{rest}")), at, "{rest:?}");
+    }
+}
+
+/// Only a name of the head stands after the first transition; another is no name.
+#[test]
+fn names_after_the_first_transition() {
+    let why = |rest: &str| {
+        let fault = text::words_of(&format!("{HEAD}slow 1 2 1e-4\n{rest}\n")).err();
+        fault.map_or(String::new(), |fault| fault.why)
+    };
+    for rest in ["slwo 1 3 1e-4", "Slow 1 3 1e-4", "medium 1"] {
+        assert!(why(rest).contains(" is no name of a line: expected states, "), "{}", why(rest));
+    }
+    for rest in ["prune 0", "prune", "edition 1"] {
+        assert!(why(rest).ends_with(" stands after the first transition"), "{}", why(rest));
+    }
+}
+
 #[test]
 fn head_lines() {
     assert_eq!(line(""), 1);

@@ -1,6 +1,7 @@
 //! A quantity: coefficient / 10^scale, the coefficient of at most six digits.
 
 use super::kind;
+use crate::echo::shown;
 
 pub const MOST_COEFFICIENT: u64 = 999_999;
 
@@ -31,14 +32,18 @@ impl Quantity {
     /// What still does not fit is an error; nothing is rounded.
     pub fn parse(spelled: &str, of: u32) -> Result<Quantity, String> {
         let (mut digits, mut scale) = decimal(spelled)?;
+        let most = i64::from(most_scale(of));
+        if digits == 0 {
+            // zero whatever the exponent, which the loops below would count through
+            scale = scale.clamp(0, most);
+        }
         while scale < 0 {
             digits = digits
                 .checked_mul(10)
                 .filter(|&d| d <= MOST_COEFFICIENT)
-                .ok_or(too_many_digits(spelled))?;
+                .ok_or_else(|| too_many_digits(spelled))?;
             scale += 1;
         }
-        let most = i64::from(most_scale(of));
         while digits % 10 == 0 && scale > 0 && (digits > MOST_COEFFICIENT || scale > most) {
             digits /= 10;
             scale -= 1;
@@ -48,12 +53,14 @@ impl Quantity {
         }
         if scale > most {
             return Err(format!(
-                "{spelled} has {scale} decimal places, and a quantity of this kind at most {most}"
+                "{} has {scale} decimal places, and a quantity of this kind at most {most}",
+                shown(spelled)
             ));
         }
         if digits == 0 && !may_be_zero(of) {
             return Err(format!(
-                "{spelled} is zero, which only a prune level and a deviation may be"
+                "{} is zero, which only a prune level and a deviation may be",
+                shown(spelled)
             ));
         }
         Ok(Quantity { coefficient: digits as u32, scale: scale as u32 })
@@ -88,12 +95,12 @@ impl std::fmt::Display for Quantity {
 }
 
 fn too_many_digits(spelled: &str) -> String {
-    format!("{spelled} needs more than six digits")
+    format!("{} needs more than six digits", shown(spelled))
 }
 
 /// The digits of a decimal number, and how many of them stand behind the point.
 fn decimal(spelled: &str) -> Result<(u64, i64), String> {
-    let wrong = || format!("{spelled} is no decimal number such as 10, 0.25 or 3e-4");
+    let wrong = || format!("{} is no decimal number such as 10, 0.25 or 3e-4", shown(spelled));
     let (number, exponent) = match spelled.split_once(['e', 'E']) {
         Some((number, exponent)) => (number, exponent.parse::<i32>().map_err(|_| wrong())?),
         None => (spelled, 0),
@@ -183,6 +190,33 @@ mod tests {
         assert_eq!(
             Quantity::parse("0e-30", kind::DEVIATION),
             Ok(Quantity { coefficient: 0, scale: 20 })
+        );
+    }
+
+    /// None of them takes longer than its digits are read.
+    #[test]
+    fn great_exponents() {
+        let prune = |spelled: &str| Quantity::parse(spelled, kind::PRUNE);
+        for (spelled, scale) in [
+            ("0e2147483647", 0),
+            ("0.000e2147483647", 0),
+            ("0e3", 0),
+            ("0.000e2", 1),
+            ("0e-20", 20),
+            ("0e-21", 20),
+            ("0e-2147483648", 20),
+            ("0.000e-2147483648", 20),
+        ] {
+            assert_eq!(prune(spelled), Ok(Quantity { coefficient: 0, scale }), "{spelled}");
+        }
+        for spelled in ["1e2147483647", "1e-2147483648", "100000e-2147483648", "0.1e2147483647"] {
+            assert!(prune(spelled).is_err(), "{spelled}");
+        }
+        assert_eq!(prune(&format!("{}1", "0".repeat(99_999))), prune("1"));
+        assert!(prune(&format!("1{}", "0".repeat(99_999))).is_err());
+        assert_eq!(
+            prune("100000000000000000e-17"),
+            Ok(Quantity { coefficient: 100_000, scale: 5 })
         );
     }
 

@@ -2,10 +2,12 @@
 //!
 //! A line holds a name and its values, apart by spaces; what follows a `#` is a comment. Each of `states`, `start`, `time`, `prune`, `steps` and
 //! `entries` stands once, in any order, before the transitions; `edition` may stand there too. Transitions go into words in the order of their
-//! lines.
+//! lines. A line ends in LF or CR LF. Any other break is an error, as is a control character but a tab: behind it a comment would go on, over what
+//! looks like the next line.
 
 use super::quantity::Quantity;
 use super::{kind, Fault, MOST_ENTRIES, MOST_STATES, MOST_STEPS};
+use crate::echo::shown;
 
 /// The names of lines before the transitions.
 const HEAD_NAMES: [&str; 7] = ["states", "start", "time", "prune", "steps", "entries", "edition"];
@@ -44,7 +46,28 @@ struct Whole {
     words: [(u32, usize); 4],
 }
 
+/// Whether readable lines may begin with this word.
+pub fn begins(first: &str) -> bool {
+    first.starts_with('#') || matches!(first, "slow" | "fast") || HEAD_NAMES.contains(&first)
+}
+
+/// The first character that no line has, as a fault of its line.
+pub fn stray(text: &str) -> Option<Fault> {
+    let strange = |c: &char| *c != '\t' && c.is_control() || matches!(c, '\u{2028}' | '\u{2029}');
+    text.lines().zip(1..).find_map(|(line, number)| {
+        let c = line.chars().find(strange)?;
+        let what = if c.is_whitespace() { "line break" } else { "control character" };
+        Some(Fault::new(
+            number,
+            format!("{what} U+{:04X}: expected lines that end in LF or CR LF, and no control character but tabs", u32::from(c)),
+        ))
+    })
+}
+
 pub fn words_of(text: &str) -> Result<Written, Fault> {
+    if let Some(fault) = stray(text) {
+        return Err(fault);
+    }
     let mut head = Head::default();
     let mut whole = None;
     let mut out = Written { words: Vec::new(), lines: Vec::new(), start: 0 };
@@ -57,7 +80,7 @@ pub fn words_of(text: &str) -> Result<Written, Fault> {
             continue;
         };
         if name != "slow" && name != "fast" {
-            if whole.is_some() {
+            if whole.is_some() && HEAD_NAMES.contains(&name) {
                 return Err(Fault::new(last, format!("{name} stands after the first transition")));
             }
             head.take(name, values, last)?;
@@ -153,6 +176,7 @@ impl Head {
 
 fn no_name(name: &str, line: usize) -> Fault {
     let names = HEAD_NAMES.join(", ");
+    let name = shown(name);
     Fault::new(line, format!("{name} is no name of a line: expected {names}, slow or fast"))
 }
 
@@ -202,6 +226,7 @@ fn whole_number(spelled: &str, least: u32, most: u32, line: usize) -> Result<u32
     let plain = spelled.bytes().all(|b| b.is_ascii_digit());
     let number = if plain { spelled.parse().ok() } else { None };
     number.filter(|n| (least..=most).contains(n)).ok_or_else(|| {
+        let spelled = shown(spelled);
         Fault::new(line, format!("{spelled} is no whole number from {least} to {most}"))
     })
 }

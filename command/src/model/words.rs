@@ -2,6 +2,7 @@
 
 use super::quantity::{may_be_zero, most_scale, Quantity, MOST_COEFFICIENT};
 use super::{kind, Fault, MOST_ENTRIES, MOST_STATES, MOST_STEPS};
+use crate::echo::shown;
 use std::fmt::Write;
 
 /// The lines of a model. Words that no lines spell are refused, with the place of the first.
@@ -141,6 +142,7 @@ pub fn of_digits(text: &str) -> Result<(Vec<u32>, Vec<usize>), Fault> {
     for (number, line) in text.lines().enumerate() {
         for digits in line.split_whitespace() {
             let word = word_of(digits).ok_or_else(|| {
+                let digits = shown(digits);
                 Fault::new(number + 1, format!("{digits} is no word of eight hexadecimal digits"))
             })?;
             words.push(word);

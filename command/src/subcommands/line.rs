@@ -2,7 +2,8 @@
 
 use super::Subcommand;
 use crate::arguments::{whole_number, Takes};
-use crate::input::{Form, Model, Spot};
+use crate::echo::shown;
+use crate::input::{Form, Model};
 use crate::{Done, Failure, Status};
 use std::io::Write;
 
@@ -22,18 +23,20 @@ fn run(given: &[&str], out: &mut dyn Write) -> Done {
     let (file, place) = (arguments.files[0], arguments.files[1]);
     let model = Model::read(file, Form::named(arguments.value("as"))?)?;
     let at = whole_number(place).and_then(|at| usize::try_from(at).ok());
-    match at.and_then(|at| model.spot(at)) {
-        Some(Spot::Line(line, text)) => writeln!(out, "{line}: {text}")?,
-        Some(Spot::Word(..)) => {
-            return Err(Failure::in_file(file, "expected a file that has lines"))
-        }
-        None => {
-            let last = model.words.len() - 1;
-            return Err(Failure::in_file(
-                file,
-                format!("{place} is no place: expected 0 to {last}"),
-            ));
-        }
-    }
+    let Some(at) = at.filter(|&at| at < model.words.len()) else {
+        return Err(Failure::in_file(file, no_place(place, model.words.len())));
+    };
+    let Some((line, text)) = model.line_of(at) else {
+        return Err(Failure::in_file(file, "expected a file that has lines"));
+    };
+    writeln!(out, "{line}: {text}")?;
     Ok(Status::Reported)
+}
+
+fn no_place(place: &str, count: usize) -> String {
+    let place = shown(place);
+    match count.checked_sub(1) {
+        Some(last) => format!("{place} is no place: expected 0 to {last}"),
+        None => format!("{place} is no place: the file has no words"),
+    }
 }

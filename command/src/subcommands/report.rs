@@ -2,6 +2,7 @@
 
 use super::Subcommand;
 use crate::arguments::{Arguments, Takes};
+use crate::echo::shown;
 use crate::input::{Form, Model};
 use crate::{explain, json, Done, Failure, Status};
 use bounds::{Error, Figure, Report};
@@ -59,9 +60,8 @@ fn limit(arguments: &Arguments) -> Result<Option<Figure>, Failure> {
     let Some(spelled) = arguments.value("at-most") else {
         return Ok(None);
     };
-    let limit =
-        spelled.parse().map_err(|why| Failure::new(format!("--at-most {spelled}: {why}")))?;
-    Ok(Some(limit))
+    let wrong = |why| Failure::new(format!("--at-most {}: {why}", shown(spelled)));
+    Ok(Some(spelled.parse().map_err(wrong)?))
 }
 
 fn object(report: &Report, meets: Option<bool>) -> String {

@@ -12,8 +12,9 @@ pub const SUBCOMMAND: Subcommand = Subcommand {
     summary: "a model as words",
     help: "usage: bounds words FILE [--hex] [--as lines|digits|bytes]
 
-Writes a model's words: four bytes a word, least significant first, as the report program reads them; with --hex eight hexadecimal digits a word. No
-model is judged: what is wrong with it, the library says. FILE may be - for standard input.",
+Writes a model's words: four bytes a word, least significant first, as the report program reads them; with --hex eight hexadecimal digits a word. FILE
+may be - for standard input. Words that no lines spell (a kind out of place, a field out of range, left-over bytes) are an error that names the first.
+Beyond that no model is judged: what else is wrong with it, the library says.",
     run,
 };
 

@@ -1,6 +1,7 @@
 //! The fields of a case.
 
 use crate::arguments::whole_number;
+use crate::echo::quoted;
 use crate::model::words::word_of;
 
 /// The values of a tool's keys, in the order of the keys.
@@ -17,11 +18,13 @@ impl<'a> Fields<'a> {
     ) -> Result<Fields<'a>, String> {
         let mut values = vec![None; keys.len()];
         for field in line.into_iter().flat_map(|line| line.split(' ')) {
-            let (key, value) =
-                field.split_once('=').ok_or_else(|| format!("{field:?} is no KEY=VALUE"))?;
+            let (key, value) = field
+                .split_once('=')
+                .ok_or_else(|| format!("{} is no KEY=VALUE", quoted(field)))?;
             let at = keys.iter().position(|known| *known == key);
-            let at =
-                at.ok_or_else(|| format!("{key:?} is no key: expected {}", keys.join(", ")))?;
+            let at = at.ok_or_else(|| {
+                format!("{} is no key: expected {}", quoted(key), keys.join(", "))
+            })?;
             if values[at].replace(value).is_some() {
                 return Err(format!("{key} stands twice"));
             }
@@ -41,7 +44,7 @@ impl<'a> Fields<'a> {
     pub fn number(&self, key: &str) -> Result<u64, String> {
         let value = self.value(key)?;
         whole_number(value)
-            .ok_or_else(|| format!("{key}={value}: expected a decimal number of 64 bits"))
+            .ok_or_else(|| format!("{key}={}: expected a decimal number of 64 bits", quoted(value)))
     }
 
     /// Words of eight hexadecimal digits; `-` at the end is one more, of no kind.
@@ -53,8 +56,9 @@ impl<'a> Fields<'a> {
         let parts: Vec<&str> = value.split(',').collect();
         let word = |(at, part): (usize, &&str)| match *part {
             "-" if at + 1 == parts.len() => Ok(0),
-            part => word_of(part)
-                .ok_or_else(|| format!("{key}: {part:?} is no word of eight hexadecimal digits")),
+            part => word_of(part).ok_or_else(|| {
+                format!("{key}: {} is no word of eight hexadecimal digits", quoted(part))
+            }),
         };
         parts.iter().enumerate().map(word).collect()
     }
@@ -68,6 +72,7 @@ impl<'a> Fields<'a> {
             Some((whole_number(digits)?, power.parse().ok()?))
         });
         parsed.ok_or_else(|| {
+            let value = quoted(value);
             format!("{key}={value}: expected digits, e and a power, such as 999500000e-12")
         })
     }

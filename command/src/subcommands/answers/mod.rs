@@ -6,6 +6,7 @@ mod report;
 
 use super::Subcommand;
 use crate::arguments::Takes;
+use crate::echo::quoted;
 use crate::{Done, Failure, Status};
 use fields::Fields;
 use std::io::{self, BufRead, Write};
@@ -66,7 +67,7 @@ fn answer(line: &[u8]) -> Result<String, String> {
     };
     let tool = TOOLS.iter().find(|tool| tool.name == name).ok_or_else(|| {
         let names: Vec<&str> = TOOLS.iter().map(|tool| tool.name).collect();
-        format!("{name:?} is no tool: expected {}", names.join(" or "))
+        format!("{} is no tool: expected {}", quoted(name), names.join(" or "))
     })?;
     (tool.answer)(&Fields::parse(rest, tool.keys)?)
 }
@@ -132,6 +133,26 @@ mod tests {
             assert!(answered(line).starts_with("error: "), "{line}");
         }
         assert!(answer(b"report\xff").is_err());
+    }
+
+    /// What is echoed is quoted and cut.
+    #[test]
+    fn echoes() {
+        let long = "1".repeat(1000);
+        let cut = format!("\"{}..\"", "1".repeat(40));
+        for (line, expected) in [
+            ("report words= budget=1\r", "budget=\"1\\r\": expected a decimal number"),
+            ("at-or-below figure=1\0e0 limit=0e0", "figure=\"1\\0e0\": expected digits, e"),
+            (&format!("report words= budget={long}"), &format!("budget={cut}: expected")),
+            (&format!("report budget=1 words={long}"), &format!("words: {cut} is no word")),
+            (&format!("at-or-below figure={long} limit="), &format!("figure={cut}: expected")),
+            (&format!("report {long}"), &format!("{cut} is no KEY=VALUE")),
+            (&format!("report {long}=1"), &format!("{cut} is no key")),
+            (&long, &format!("{cut} is no tool")),
+        ] {
+            let answer = answered(line);
+            assert!(answer.starts_with(&format!("error: {expected}")), "{answer}");
+        }
     }
 
     /// Each line has its answer and an empty line, one that is no case and a last one without a newline included.

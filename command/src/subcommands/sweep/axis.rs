@@ -1,6 +1,7 @@
 //! What is swept, and the model's words at each of its values.
 
 use crate::arguments::whole_number;
+use crate::echo::{quoted, shown};
 use crate::model::quantity::Quantity;
 use crate::model::{kind, words, MOST_ENTRIES, MOST_STEPS};
 use crate::Failure;
@@ -46,7 +47,9 @@ impl<'a> Axis<'a> {
             "step-limit" => (Of::StepLimit, value),
             "entry-limit" => (Of::EntryLimit, value),
             _ => {
-                let wrong = || Failure::new(format!("--rate {value}: expected INDEX=RATE,RATE,.."));
+                let wrong = || {
+                    Failure::new(format!("--rate {}: expected INDEX=RATE,RATE,..", shown(value)))
+                };
                 let (index, list) = value.split_once('=').ok_or_else(wrong)?;
                 let index = whole_number(index).and_then(|index| usize::try_from(index).ok());
                 (Of::Rate(index.ok_or_else(wrong)?), list)
@@ -112,9 +115,9 @@ impl<'a> Axis<'a> {
 
     fn limit(&self, spelled: &str, most: u32) -> Result<u32, Failure> {
         let limit = whole_number(spelled).and_then(|limit| u32::try_from(limit).ok());
-        limit
-            .filter(|limit| (1..=most).contains(limit))
-            .ok_or_else(|| self.wrong(&format!("{spelled:?} is no whole number from 1 to {most}")))
+        limit.filter(|limit| (1..=most).contains(limit)).ok_or_else(|| {
+            self.wrong(&format!("{} is no whole number from 1 to {most}", quoted(spelled)))
+        })
     }
 
     fn rate_place(&self, words: &[u32], index: usize) -> Result<usize, Failure> {

@@ -10,6 +10,7 @@ use crate::progress::Progress;
 use crate::{Done, Failure, Status};
 use axis::{Axis, Point};
 use bounds::{Error, Refusal, Report};
+use std::fs;
 use std::io::Write;
 
 pub const SUBCOMMAND: Subcommand = Subcommand {
@@ -17,8 +18,8 @@ pub const SUBCOMMAND: Subcommand = Subcommand {
     summary: "a model over several values of one of its numbers",
     help: "usage: bounds sweep FILE AXIS [--budget N] [--svg OUT] [--as lines|digits|bytes]
 
-Prints a table with one row for each value, and with --svg writes a plot of lower and upper over them. FILE is as for `bounds report`; its own value
-of what is swept plays no part. AXIS is one of
+Prints a table with one row for each value, and with --svg writes a plot of lower and upper over them. FILE is as for `bounds report`. Its own value
+of what is swept must stand in it and be readable too; the rows have the given values in its place. OUT is another file than FILE. AXIS is one of
 
 --time 1,10,100           the mission time T
 --prune 0,1e-9,1e-6       the prune level P
@@ -45,18 +46,36 @@ pub type Answer = Result<Report, Refusal>;
 fn run(given: &[&str], out: &mut dyn Write) -> Done {
     let arguments = TAKES.parse(given)?;
     let budget = arguments.budget()?;
+    let plotted = plotted(&arguments)?;
     let model = Model::read(arguments.files[0], Form::named(arguments.value("as"))?)?;
     model.spelled()?;
     let axis = axis(&arguments)?;
     let points = axis.points(&model.words)?;
     let answers = answers(&points, budget)?;
     write!(out, "{}", table(&axis, &points, &answers))?;
-    if let Some(file) = arguments.value("svg") {
+    if let Some(file) = plotted {
         let plot = plot::svg(&model.file, &axis, &points, &answers);
-        std::fs::write(file, plot).map_err(|error| Failure::in_file(file, error))?;
+        fs::write(file, plot).map_err(|error| Failure::in_file(file, error))?;
     }
     let refused = answers.iter().any(Result::is_err);
     Ok(if refused { Status::Refused } else { Status::Reported })
+}
+
+/// The file for the plot, if there is to be one. It would be written over the model where it is the same.
+fn plotted<'a>(arguments: &Arguments<'a>) -> Result<Option<&'a str>, Failure> {
+    let Some(plot) = arguments.value("svg") else {
+        return Ok(None);
+    };
+    let model = match arguments.files[0] {
+        "-" => "/dev/stdin",
+        file => file,
+    };
+    match (fs::canonicalize(plot), fs::canonicalize(model)) {
+        (Ok(path), Ok(other)) if path == other && path.is_file() => {
+            Err(Failure::new(format!("--svg {plot}: expected another file than the model's own")))
+        }
+        _ => Ok(Some(plot)),
+    }
 }
 
 /// The one axis that was given.

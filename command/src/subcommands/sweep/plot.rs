@@ -3,6 +3,7 @@
 
 use super::axis::{Axis, Point};
 use super::Answer;
+use crate::echo::escaped;
 use bounds::Figure;
 use std::fmt::Write;
 
@@ -16,6 +17,8 @@ const BOTTOM: f64 = 400.0;
 /// Labels stand at least so far apart.
 const APART: f64 = 46.0;
 const MOST_TICKS: i64 = 10;
+/// The room for the model's name in the title, in ems of 14: the rest takes 23 of a wide typeface, and 45 reach the right edge.
+const NAME_ROOM: f64 = 21.0;
 
 /// A range of one axis, and where it is drawn.
 struct Range {
@@ -54,7 +57,7 @@ pub fn svg(title: &str, axis: &Axis, points: &[Point], answers: &[Answer]) -> St
         LEFT,
         24.0,
         "start",
-        &format!("{title}: probability of failure, lower and upper bound"),
+        &format!("{}: probability of failure, lower and upper bound", fitting(&escaped(title))),
     );
     put_ticks_upward(&mut out, &upward);
     put_ticks_across(&mut out, points, &across);
@@ -73,6 +76,27 @@ pub fn svg(title: &str, axis: &Axis, points: &[Point], answers: &[Answer]) -> St
     put_legend(&mut out);
     out.push_str("</svg>\n");
     out
+}
+
+/// The name, or its end, where there is no room for all of it.
+fn fitting(name: &str) -> String {
+    if width(name) <= NAME_ROOM {
+        return name.into();
+    }
+    let mut ends = name.char_indices().map(|(at, _)| &name[at..]);
+    let end = ends.find(|end| width("..") + width(end) <= NAME_ROOM);
+    format!("..{}", end.unwrap_or_default())
+}
+
+/// The greatest width of a text in common typefaces, in ems.
+fn width(text: &str) -> f64 {
+    let of = |c: char| match c {
+        'f' | 'i' | 'j' | 'l' | 'r' | 't' | ' ' | '.' | ',' | '/' | '-' => 0.42,
+        'm' | 'w' => 1.0,
+        'a'..='z' | '0'..='9' | '_' => 0.64,
+        _ => 1.0,
+    };
+    text.chars().map(of).sum()
 }
 
 /// The range of the axis across. A zero of a logarithmic axis stands one step before the others.
@@ -259,10 +283,14 @@ mod tests {
         [0x11002001, 0x2000000A, 0x30000000, 0x41801000, 0x50001002, 0x60400001, 0xF0000000];
 
     fn plotted(times: &str, budget: u64) -> Result<String, Failure> {
+        titled("a <&> b", times, budget)
+    }
+
+    fn titled(title: &str, times: &str, budget: u64) -> Result<String, Failure> {
         let axis = Axis::of("time", times)?;
         let points = axis.points(&WORDS)?;
         let answers = super::super::answers(&points, budget)?;
-        Ok(svg("a <&> b", &axis, &points, &answers))
+        Ok(svg(title, &axis, &points, &answers))
     }
 
     /// The places of the dots and of the rings, the legend's left out.
@@ -294,6 +322,25 @@ mod tests {
         assert_eq!(heights(&plot, "3").len(), 0);
         assert_eq!(plot.matches("m 0 -10").count(), 3);
         assert_eq!(plot.matches("<polyline").count(), 0);
+        Ok(())
+    }
+
+    /// A long name keeps its end, and no control character stands in the XML.
+    #[test]
+    fn titles() -> Result<(), Failure> {
+        let title = |name: &str| -> Result<String, Failure> {
+            let plot = titled(name, "1,10", 1)?;
+            let text = plot.lines().find_map(|line| line.split_once(": probability of failure"));
+            let before = text.map_or("", |(before, _)| before);
+            Ok(before.rsplit('>').next().unwrap_or_default().into())
+        };
+        let fits = "examples/papers/tp2764-ex4-T10.txt";
+        assert_eq!(title(fits)?, fits);
+        let long = title(&format!("{}models/a-b.txt", "folder/".repeat(100)))?;
+        assert!(long.starts_with("..") && long.ends_with("/folder/models/a-b.txt"), "{long}");
+        assert!((30..=40).contains(&long.len()), "{long}");
+        assert_eq!(title(&"W".repeat(99))?.len(), 2 + 20);
+        assert_eq!(title("a\u{1}\n\u{FFFE}b")?, "a\\u{1}\\n\\u{fffe}b");
         Ok(())
     }
 }
