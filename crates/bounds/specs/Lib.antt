@@ -1,3 +1,4 @@
-pub mod Internal
 pub mod Faithful
 pub mod Answers
+pub mod Rows
+pub mod Internal

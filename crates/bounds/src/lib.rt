@@ -1,12 +1,15 @@
-// From a model's words to a report: the index and the table, the walk over the cut tree and the answer.
+// From a model's words to a report: the index and the tables, the walk over the cut tree, the answer and the rows.
 ghost use mathlib.Core.Path.{_≡_};
 ghost use Prim.Native.Nat.{_≤_};
 ghost use Rattle.model.specs.Promise.{summary};
 ghost use Rattle.tree.specs.Internal.Tally as running;
 ghost use Rattle.tables.specs.Internal.Described.{Indexes, described};
 ghost use Rattle.path.specs.Internal.Totals.{Counted, totals-of};
+ghost use Rattle.rows.specs.Internal.Table.{totals-in};
 ghost use Rattle.bounds.specs.Internal.Walk.{WalkedTree};
+ghost use Rattle.bounds.specs.Internal.Measured.{Measured};
 ghost use Rattle.bounds.specs.Answers.{Promised, report-of};
+ghost use Rattle.bounds.specs.Rows.{PromisedRows};
 use crate::walk::Task;
 use crate::walk::walk;
 use figure::Figure;
@@ -17,9 +20,14 @@ use model::read;
 use path::exits::Tip;
 use path::totals::Totals;
 use path::totals::nothing;
+use rows::fill_rows;
+use rows::names::clear;
+use rows::names::name_rows;
+use rows::table::RowTable;
 use tables::figures::figure_of;
 use tables::fill;
 use tables::table::Table;
+use tree::Row;
 use word::Refusal;
 
 mod walk;
@@ -39,10 +47,11 @@ pub enum Answer {
     Refused(Refusal),
 }
 
-// The totals of the walk over the tree of an accepted model, or totals whose steps are above the budget.
-fn walked(words: &[u32], index: &Index, a: Accepted, budget: u64) -> Totals
+// The totals of the walk over the tree of an accepted model, or totals whose steps are above the budget; those of rows are kept in `rows`.
+fn walked(words: &[u32], index: &Index, a: Accepted, budget: u64, rows: &mut RowTable) -> Totals
     requires { ⌜ Indexes (now words) (now index) × (a ≡ summary (described (now words))) × (budget ≤ 1000000) ⌝ }
-    ensures { λ r. ⌜ WalkedTree (now (words .entry)) budget r ⌝ }
+    requires { ⌜ totals-in (now rows) ≡ running.zero-row-totals ⌝ }
+    ensures { λ r. ⌜ WalkedTree (now (words .entry)) budget r (now (rows .entry)) (now (rows .exit)) ⌝ }
 {
     let mut table: Table = [0; 16004];
     fill(words, index, a, &mut table);
@@ -74,6 +83,7 @@ fn walked(words: &[u32], index: &Index, a: Accepted, budget: u64) -> Totals
         entered,
         path,
         nothing(),
+        rows,
     )
 }
 
@@ -98,21 +108,49 @@ fn reported(t: Totals) -> Report
     }
 }
 
-// The report on the model that the words describe, White's lower and upper bounds summed over the paths of its cut tree and rounded outward; or a
-// refusal. It takes every list of words and every budget.
-pub fn unreliability(words: &[u32], budget: u64) -> Answer
-    ensures { λ r. ⌜ Promised (now (words .entry)) (now (words .exit)) budget r ⌝ }
+// The answer to a caller who lends so many rows, and in `rows` those to be filled, whatever it held: none where the model is refused before the walk,
+// and without figures where the walk is.
+fn measured(words: &[u32], budget: u64, lent: usize, rows: &mut RowTable) -> Answer
+    ensures { λ r. ⌜ Measured (now (words .entry)) (now (words .exit)) budget lent (now (rows .exit)) r ⌝ }
 {
+    clear(rows);
     let mut index: Index = [0; 21017];
     let r = read(words, budget, &mut index);
     match r {
         Reading::Refused(f) => Answer::Refused(f),
         Reading::Accepted(a) => {
-            let t = walked(words, &index, a, budget);
+            let needed = name_rows(words, &index, a, rows);
+            if lent < needed {
+                clear(rows);
+                return Answer::Refused(Refusal::TooFewRows(needed));
+            }
+            let t = walked(words, &index, a, budget, rows);
             if budget < t.steps {
+                name_rows(words, &index, a, rows);
                 return Answer::Refused(Refusal::OverBudget);
             }
             Answer::Report(reported(t))
         }
     }
+}
+
+// The report on the model that the words describe, White's lower and upper bounds summed over the paths of its cut tree and rounded outward; or a
+// refusal. It takes every list of words and every budget.
+pub fn unreliability(words: &[u32], budget: u64) -> Answer
+    ensures { λ r. ⌜ Promised (now (words .entry)) (now (words .exit)) budget r ⌝ }
+{
+    let mut rows: RowTable = [0; 5006];
+    measured(words, budget, 1000, &mut rows)
+}
+
+// The same, and in the caller's rows the bounds on each way to fail: the first are filled, one for each state without exits that is the target of a
+// transition. It takes every list of words, every budget and any number of rows.
+pub fn unreliability_by_state(words: &[u32], budget: u64, rows: &mut [Row]) -> Answer
+    ensures { λ r. ⌜ PromisedRows (now (words .entry)) (now (words .exit)) budget (now (rows .entry)) (now (rows .exit)) r ⌝ }
+{
+    let mut table: RowTable = [0; 5006];
+    let lent = rows.len();
+    let answer = measured(words, budget, lent, &mut table);
+    fill_rows(rows, &table);
+    answer
 }

@@ -15,6 +15,8 @@ use path::totals::Totals;
 use path::totals::with_cut;
 use path::totals::with_death;
 use path::totals::with_step;
+use rows::table::RowTable;
+use rows::table::note;
 use tables::table::Table;
 
 // What stays the same in a walk: the mission time, the prune level, the entry limit and the budget.
@@ -26,7 +28,7 @@ pub(crate) struct Task {
 }
 
 // Walks every exit of the tip's state. `left` is the number of steps that the path may still take. It hands back the totals with the steps taken,
-// and stops at the first step past the budget.
+// keeps those of each state's row in `rows`, and stops at the first step past the budget.
 pub(crate) fn walk(
     words: &[u32],
     index: &Index,
@@ -37,9 +39,10 @@ pub(crate) fn walk(
     entries: [u8; 1001],
     path: [u16; 24],
     totals: Totals,
+    rows: &mut RowTable,
 ) -> Totals
-    requires { ⌜ Ready (lent (now words) (now index) (now table)) (asked task tip left entries path totals) ⌝ }
-    ensures { λ r. ⌜ WalkedBeyond (lent (now (words .entry)) (now (index .entry)) (now (table .entry))) (asked task tip left entries path totals) r ⌝ }
+    requires { ⌜ Ready (lent (now words) (now index) (now table)) (asked task tip left entries path totals (now rows)) ⌝ }
+    ensures { λ r. ⌜ WalkedBeyond (lent (now (words .entry)) (now (index .entry)) (now (table .entry))) (asked task tip left entries path totals (now (rows .entry))) r (now (rows .exit)) ⌝ }
 {
     let nth = Figure::of_whole(tip.ones + 1);
     let mut entered = entries;
@@ -67,6 +70,7 @@ pub(crate) fn walk(
             let lower = died.lower;
             cache = died.cache;
             sums = with_death(sums, lower, upper);
+            note(rows, to, lower, upper);
         } else if is_continued(o) {
             sums = with_step(sums);
             entered[to] = before + 1;
@@ -81,6 +85,7 @@ pub(crate) fn walk(
                 entered,
                 taken,
                 sums,
+                rows,
             );
             entered[to] = before;
             if task.budget < sums.steps {

@@ -17,6 +17,7 @@ mod sum;
 mod total;
 mod whole;
 
+#[repr(C)]
 pub struct Figure {
     pub digits: u64,
     pub power: i32,

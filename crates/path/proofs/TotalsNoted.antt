@@ -1,29 +1,37 @@
--- One visit noted in the totals, by what becomes of its path. Assumes nothing.
-use mathlib.Core.Path.{_≡_, sym, ap, _∙_}
+-- One visit noted in what a walk keeps, by what becomes of its path. Assumes nothing.
+use Prim.Native.Nat.{ℕ}
+use mathlib.Core.Path.{_≡_, refl, sym, ap, _∙_}
 use mathlib.Core.Bool.{true, false, true≢false}
 use Rattle.figure.specs.declared.Figure.{Figure}
 use Rattle.tree.specs.Tree.{Outcome, death, entered-too-often, step-limit, low-level, continued, is-death, is-continued}
 use Rattle.tree.proofs.Outcomes.{is-death-true, is-continued-true}
-use Rattle.tree.specs.Internal.Tally.{Totals, with-step, with-cut, with-death, noted}
+use Rattle.tree.specs.Internal.Tally.{with-step, with-cut, with-death, row-with-death, Kept, noted}
 
--- the totals r are those with this path, of the lower l and the upper u
+-- what is kept, r, is a with this path, which ends in the state s, of the lower l and the upper u
 
-module _ (a : Totals) {r : Totals} (l u : Figure) (o : Outcome) where
-  pub note-death : {f : Figure} → r ≡ with-death a f u → f ≡ l → is-death o ≡ true → r ≡ noted a o l u
+module _ (a : Kept) {r : Kept} (s : ℕ) (l u : Figure) (o : Outcome) where
+  -- as a record of its two parts
+  parts : {b : Kept} → r .totals ≡ b .totals → r .rows ≡ b .rows → r ≡ b
+  parts e f = λ i. record { totals = e i; rows = f i }
+
+  pub note-death : {f : Figure} → r .totals ≡ with-death (a .totals) f u → r .rows ≡ row-with-death (a .rows) s f u → f ≡ l → is-death o ≡ true
+      → r ≡ noted a o s l u
   unfolding noted
-  note-death e is d = e ∙ ap (λ x. with-death a x u) is ∙ sym (ap (λ x. noted a x l u) (is-death-true o d))
+  note-death e h is d =
+      parts {b = noted a death s l u} (e ∙ ap (λ x. with-death (a .totals) x u) is) (h ∙ ap (λ x. row-with-death (a .rows) s x u) is)
+      ∙ sym (ap (λ x. noted a x s l u) (is-death-true o d))
 
-  pub note-step : r ≡ with-step a → is-continued o ≡ true → r ≡ noted a o l u
+  pub note-step : r .totals ≡ with-step (a .totals) → r .rows ≡ a .rows → is-continued o ≡ true → r ≡ noted a o s l u
   unfolding noted
-  note-step e c = e ∙ sym (ap (λ x. noted a x l u) (is-continued-true o c))
+  note-step e h c = parts {b = noted a continued s l u} e h ∙ sym (ap (λ x. noted a x s l u) (is-continued-true o c))
 
-  pub note-cut : r ≡ with-cut a u → is-death o ≡ false → is-continued o ≡ false → r ≡ noted a o l u
+  pub note-cut : r .totals ≡ with-cut (a .totals) u → r .rows ≡ a .rows → is-death o ≡ false → is-continued o ≡ false → r ≡ noted a o s l u
   unfolding noted
-  note-cut e d c = go o d c
+  note-cut e h d c = go o d c
     where
-      go : (x : Outcome) → is-death x ≡ false → is-continued x ≡ false → r ≡ noted a x l u
+      go : (x : Outcome) → is-death x ≡ false → is-continued x ≡ false → r ≡ noted a x s l u
       go death d c = absurd (true≢false d)
-      go entered-too-often d c = e
-      go step-limit d c = e
-      go low-level d c = e
+      go entered-too-often d c = parts {b = noted a entered-too-often s l u} e h
+      go step-limit d c = parts {b = noted a step-limit s l u} e h
+      go low-level d c = parts {b = noted a low-level s l u} e h
       go continued d c = absurd (true≢false c)

@@ -41,6 +41,12 @@ module _ (p : ℤ) (h : mag p ≤ 100000) where
   raised-below : (r : ℕ) → pos r ≡ p +ℤ pos 1048576 → r < 2097152
   raised-below r e = le-trans {m = 1148579} (omega (arith, ap mag e, mag-sum p (pos 1048576))) (lit≤ tt)
 
+  -- and modulo 2^21 it is set back to what it was
+  pub raised-back : (r : ℕ) → pos r ≡ p +ℤ pos 1048576 → pos (r % 2097152) -ℤ pos 1048576 ≡ p
+  raised-back r e =
+      let same : r % 2097152 ≡ r = omega (arith, raised-below r e) in
+      ap (λ (k : ℕ). pos k -ℤ pos 1048576) same ∙ ap (λ (z : ℤ). z -ℤ pos 1048576) e ∙ +ℤ-negℤ-cancel p (pos 1048576)
+
 -- ---- and set back
 
 module _ (k : ℕ) (h : k < 2097152) where

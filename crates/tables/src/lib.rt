@@ -16,13 +16,13 @@ use model::index::exit_count;
 pub mod class;
 pub mod figures;
 mod grains;
-mod pack;
+pub mod pack;
 mod states;
 mod steps;
 pub mod table;
 
 // The number of transitions: that of the exits of the states 1 to `states`.
-fn transition_count(index: &Index, states: usize) -> usize
+pub fn transition_count(index: &Index, states: usize) -> usize
     requires { ⌜ states ≤ 1000 ⌝ }
     ensures { λ r. ⌜ r ≡ exit-total (now (index .entry)) states ⌝ }
 {

@@ -15,7 +15,7 @@ pub(crate) fn pack(f: Figure) -> u64
 }
 
 // A power above 0.
-fn raised(p: i32) -> u64
+pub fn raised(p: i32) -> u64
     requires { ⌜ mag p ≤ 100000 ⌝ }
     ensures { λ r. ⌜ pos r ≡ p +ℤ pos 1048576 ⌝ }
 {
@@ -31,7 +31,7 @@ pub(crate) fn unpack(x: u64) -> Figure
 }
 
 // A raised power, set back.
-fn lowered(k: u64) -> i32
+pub fn lowered(k: u64) -> i32
     requires { ⌜ k < 2097152 ⌝ }
     ensures { λ r. ⌜ r ≡ pos k -ℤ pos 1048576 ⌝ }
 {

@@ -1,11 +1,11 @@
--- Document 01's number and place for each case of the code's enum `Refusal`. Assumes nothing: these are definitions.
+-- The documents' number and place for each case of the code's enum `Refusal`. Assumes nothing: these are definitions.
 use Prim.Native.Nat.{ℕ}
 use Rattle.word.specs.declared.Refusal.{Refusal}
 use Rattle.word.specs.declared.Refusal.the-variants.{TooManyWords, BudgetOutOfRange, WrongKind, BitSet, QuantityOutOfRange, FieldOutOfRange}
 use Rattle.word.specs.declared.Refusal.the-variants.{SelfTransition, DuplicateTransition, TooManyTransitions, ProbabilitiesNotOne}
-use Rattle.word.specs.declared.Refusal.the-variants.{StartWithoutExits, OverBudget}
+use Rattle.word.specs.declared.Refusal.the-variants.{StartWithoutExits, OverBudget, TooFewRows}
 
--- the numbers of document 01's list
+-- the numbers of document 01's list, and of document 02's requests
 abbrev pub number : Refusal → ℕ
 number TooManyWords = 1
 number BudgetOutOfRange = 2
@@ -19,8 +19,9 @@ number (TooManyTransitions i) = 9
 number (ProbabilitiesNotOne s) = 10
 number (StartWithoutExits s) = 11
 number OverBudget = 13
+number (TooFewRows n) = 14
 
--- "Place 0" for 1, 2 and 13; for 3 to 9 the word's; for 10 and 11 the state
+-- "Place 0" for 1, 2 and 13; for 3 to 9 the word's; for 10 and 11 the state; for 14 "the number of rows needed"
 abbrev pub place : Refusal → ℕ
 place TooManyWords = 0
 place BudgetOutOfRange = 0
@@ -34,3 +35,4 @@ place (TooManyTransitions i) = i
 place (ProbabilitiesNotOne s) = s
 place (StartWithoutExits s) = s
 place OverBudget = 0
+place (TooFewRows n) = n

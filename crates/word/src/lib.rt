@@ -9,7 +9,7 @@ pub struct Quantity {
     pub scale: u32,
 }
 
-// Why a model is turned away, with the word's place or the state where document 01 gives one.
+// Why a model is turned away, with the word's place, the state or the number of rows needed where the documents give one.
 pub enum Refusal {
     TooManyWords,
     BudgetOutOfRange,
@@ -22,6 +22,7 @@ pub enum Refusal {
     TooManyTransitions(usize),
     ProbabilitiesNotOne(usize),
     StartWithoutExits(usize),
+    TooFewRows(usize),
     OverBudget,
 }
 

@@ -1,4 +1,4 @@
-// The number and the place that document 01 gives a refusal.
+// The number and the place that the documents give a refusal.
 use crate::Refusal;
 ghost use mathlib.Core.Path.{_≡_};
 ghost use Rattle.word.specs.Refusal as refusals;
@@ -20,6 +20,7 @@ impl Refusal {
             Refusal::ProbabilitiesNotOne(_) => 10,
             Refusal::StartWithoutExits(_) => 11,
             Refusal::OverBudget => 13,
+            Refusal::TooFewRows(_) => 14,
         }
     }
 
@@ -39,6 +40,7 @@ impl Refusal {
             Refusal::ProbabilitiesNotOne(s) => s,
             Refusal::StartWithoutExits(s) => s,
             Refusal::OverBudget => 0,
+            Refusal::TooFewRows(n) => n,
         }
     }
 }

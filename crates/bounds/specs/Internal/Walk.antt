@@ -7,6 +7,7 @@ use lib.Dec.{ltb}
 use Rattle.word.specs.Model.{Net, Model}
 use Rattle.tree.specs.States.{mission-time, figure-of}
 use Rattle.tree.specs.Tree.{Visit, visits, tree}
+use Rattle.tree.specs.Internal.Tally.{Kept, nothing-kept}
 use Rattle.tree.specs.Internal.Carried.{Carried, Carries, carried-visits}
 use Rattle.tree.specs.Internal.Going.{Walked}
 use Rattle.tables.specs.Internal.Described.{described, net-of}
@@ -15,9 +16,11 @@ use Rattle.path.specs.declared.exits.Tip.{Tip}
 use Rattle.path.specs.declared.totals.Totals.{Totals}
 use Rattle.path.specs.Internal.Lent.{Lent, Filled, model-in, net-in, limits-in}
 use Rattle.path.specs.Internal.Paths.{path-of, Known}
-use Rattle.path.specs.Internal.Totals.{totals-of, nothing-yet, Counted}
+use Rattle.path.specs.Internal.Totals.{totals-of, Counted}
+use Rattle.rows.specs.Internal.Table.{totals-in, RowGathered, NamesKept}
 
--- What a walk is asked for: to go on from the tip, with so many steps left, the entry counts and the path up to the tip, and the totals so far.
+-- What a walk is asked for: to go on from the tip, with so many steps left, the entry counts and the path up to the tip, the totals so far, and the
+-- table of rows with theirs.
 pub record Asked : Type 0 where
   pub task : Task
   pub tip : Tip
@@ -25,10 +28,11 @@ pub record Asked : Type 0 where
   pub entered : List ℕ
   pub path : List ℕ
   pub totals : Totals
+  pub rows : List ℕ
 
-abbrev pub asked : Task → Tip → ℕ → List ℕ → List ℕ → Totals → Asked
-asked task tip left entered path totals =
-    record { task = task; tip = tip; left = left; entered = entered; path = path; totals = totals }
+abbrev pub asked : Task → Tip → ℕ → List ℕ → List ℕ → Totals → List ℕ → Asked
+asked task tip left entered path totals rows =
+    record { task = task; tip = tip; left = left; entered = entered; path = path; totals = totals; rows = rows }
 
 -- a task is that of a model, with an allowed budget
 pub record TaskOf (m : Model) (t : Task) : Type 0 where
@@ -45,6 +49,14 @@ carried-of net path tip entered =
 abbrev pub carried-in : Lent → Asked → Carried
 carried-in l a = carried-of (net-in l) (a .path) (a .tip) (a .entered)
 
+-- all that a walk keeps: the totals, and in the table those of rows
+abbrev pub kept-of : Totals → List ℕ → Kept
+kept-of t rows = record { totals = totals-of t; rows = totals-in rows }
+
+-- each state's totals are in range, as the report's are
+pub record RowsCounted (n : ℕ) (rows : List ℕ) : Type 0 where
+  pub each : (s : ℕ) → RowGathered n (totals-in rows s)
+
 -- A walk may begin: the index and the table are filled, the task is the model's, and the tip, the entry counts and the path agree.
 pub record Ready (l : Lent) (a : Asked) : Type 0 where
   pub filled : Filled l
@@ -56,35 +68,40 @@ pub record Ready (l : Lent) (a : Asked) : Type 0 where
   pub depth : a .left + a .tip .len ≡ (limits-in l) .step-limit
   pub more : 0 < a .left
   pub counted : Counted (a .totals)
+  pub rows-counted : RowsCounted (a .totals .steps) (a .rows)
   pub within : a .totals .steps ≤ a .task .budget
 
--- What a walk over some visits hands back, from the totals t on: where the budget has room for all of them, their totals; else totals whose steps
+-- What a walk over some visits hands back, from what is kept, w, on: where the budget has room for all of them, their totals; else totals whose steps
 -- are above the budget. The steps tell which.
-abbrev pub EndsOver : Net → ℕ → Totals → List Visit → Totals → Type 0
-EndsOver net budget t vs r = Walked net budget (totals-of t) vs (ltb budget (r .steps)) (totals-of r)
+abbrev pub EndsOver : Net → ℕ → Kept → List Visit → Totals → List ℕ → Type 0
+EndsOver net budget w vs r rows = Walked net budget w vs (ltb budget (r .steps)) (kept-of r rows)
 
 -- the visits beyond what is carried, with n steps left
 abbrev pub visits-from : Lent → ℕ → Carried → List Visit
 visits-from l n c = carried-visits (net-in l) (limits-in l) n c
 
 -- the walk that is asked for ends so
-abbrev pub Ends : Lent → Asked → Totals → Type 0
-Ends l a r = EndsOver (net-in l) (a .task .budget) (a .totals) (visits-from l (a .left) (carried-in l a)) r
+abbrev pub Ends : Lent → Asked → Totals → List ℕ → Type 0
+Ends l a r rows = EndsOver (net-in l) (a .task .budget) (kept-of (a .totals) (a .rows)) (visits-from l (a .left) (carried-in l a)) r rows
 
 -- the cut tree's own visits beyond the path up to the tip
 abbrev pub visits-beyond : Lent → Asked → List Visit
 visits-beyond l a = visits (net-in l) (limits-in l) (a .left) (path-of (net-in l) (a .path) (a .tip .len))
 
--- what `walk` hands back
-pub record WalkedBeyond (l : Lent) (a : Asked) (r : Totals) : Type 0 where
-  pub ends : Ends l a r
+-- what `walk` hands back, and the table of rows after it
+pub record WalkedBeyond (l : Lent) (a : Asked) (r : Totals) (rows : List ℕ) : Type 0 where
+  pub ends : Ends l a r rows
   pub counted : Counted r
+  pub rows-counted : RowsCounted (r .steps) rows
+  pub names-kept : NamesKept (a .rows) rows
   -- the steps are the count of paths in the cut tree's definition, where the budget was not passed
   pub steps-are : r .steps ≤ a .task .budget → r .steps ≡ a .totals .steps + length (visits-beyond l a)
 
--- what the walk from the start hands back
-pub record WalkedTree (ws : List ℕ) (budget : ℕ) (r : Totals) : Type 0 where
-  pub ends : EndsOver (net-of ws) budget nothing-yet (tree (net-of ws) ((described ws) .limits)) r
+-- what the walk from the start hands back, of the table of rows before and after
+pub record WalkedTree (ws : List ℕ) (budget : ℕ) (r : Totals) (before after : List ℕ) : Type 0 where
+  pub ends : EndsOver (net-of ws) budget nothing-kept (tree (net-of ws) ((described ws) .limits)) r after
   pub counted : Counted r
+  pub rows-counted : RowsCounted (r .steps) after
+  pub names-kept : NamesKept before after
   -- likewise, of the whole tree
   pub steps-are : r .steps ≤ budget → r .steps ≡ length (tree (net-of ws) ((described ws) .limits))

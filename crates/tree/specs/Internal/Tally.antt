@@ -1,11 +1,16 @@
--- The totals one visit at a time, as a walk keeps them. Contracts of the walk cite this page; that the totals over the tree give the report is
--- `tally-report` (crates/tree/proofs/Tally.antt). Assumes nothing: these are definitions.
+-- The totals one visit at a time, as a walk keeps them, of the report and of each state's row. Contracts of the walk cite this page; that the totals
+-- over the tree give the report and the rows is `tally-report` and `tally-finish-row` (crates/tree/proofs/Tally.antt). Assumes nothing: these are
+-- definitions.
 use Prim.Native.Nat.{ℕ, _+_}
+use mathlib.Core.Bool.{true, false}
 use mathlib.Core.List.{List, [], _∷_}
+use lib.Dec.{eqb}
 use Rattle.figure.specs.declared.Figure.{Figure}
 use Rattle.figure.specs.Rounding.{none}
 use Rattle.figure.specs.Operations.{total-up, total-down, to-nine-up, to-nine-down, sum-to-nine-up}
 use Rattle.word.specs.Model.{Net}
+use Rattle.tree.specs.declared.Row.{Row}
+use Rattle.tree.specs.Paths.{last-state}
 use Rattle.tree.specs.Upper.{upper}
 use Rattle.tree.specs.Lower.{lower}
 use Rattle.tree.specs.Tree.{Outcome, death, entered-too-often, step-limit, low-level, continued, Visit}
@@ -55,21 +60,49 @@ with-death a l u = record {
   steps = a .steps + 1;
 }
 
--- one more path, by what becomes of it
-unfoldable pub noted : Totals → Outcome → (l u : Figure) → Totals
-noted a death l u = with-death a l u
-noted a entered-too-often l u = with-cut a u
-noted a step-limit l u = with-cut a u
-noted a low-level l u = with-cut a u
-noted a continued l u = with-step a
+-- ---- the totals of rows
 
-abbrev pub with-visit : Net → Totals → Visit → Totals
-with-visit net a v = noted a (v .outcome) (lower net (v .path)) (upper net (v .path))
+-- of one state's death paths
+pub record RowTotals : Type 0 where
+  pub lower : Figure
+  pub upper : Figure
 
--- the totals over visits, in their order
-unfoldable pub tally : Net → Totals → List Visit → Totals
+abbrev pub zero-row-totals : ℕ → RowTotals
+zero-row-totals s = record { lower = none; upper = none }
+
+abbrev pub row-totals-with : RowTotals → Figure → Figure → RowTotals
+row-totals-with a l u = record { lower = total-down (a .lower) l; upper = total-up (a .upper) u }
+
+-- one more death path, of the lower l and the upper u, which ends in the state `last`; other states' totals are as they were
+unfoldable pub row-with-death : (ℕ → RowTotals) → (last : ℕ) → Figure → Figure → ℕ → RowTotals
+row-with-death rows last l u s = elim (eqb last s) [ true ↦ row-totals-with (rows s) l u | false ↦ rows s ]
+
+-- ---- all that a walk keeps
+
+pub record Kept : Type 0 where
+  pub totals : Totals
+  pub rows : ℕ → RowTotals
+
+abbrev pub nothing-kept : Kept
+nothing-kept = record { totals = zero-totals; rows = zero-row-totals }
+
+-- one more path, by what becomes of it and the state that it ends in
+unfoldable pub noted : Kept → Outcome → (last : ℕ) → (l u : Figure) → Kept
+noted a death last l u = record { totals = with-death (a .totals) l u; rows = row-with-death (a .rows) last l u }
+noted a entered-too-often last l u = record { totals = with-cut (a .totals) u; rows = a .rows }
+noted a step-limit last l u = record { totals = with-cut (a .totals) u; rows = a .rows }
+noted a low-level last l u = record { totals = with-cut (a .totals) u; rows = a .rows }
+noted a continued last l u = record { totals = with-step (a .totals); rows = a .rows }
+
+abbrev pub with-visit : Net → Kept → Visit → Kept
+with-visit net a v = noted a (v .outcome) (last-state net (v .path)) (lower net (v .path)) (upper net (v .path))
+
+-- what is kept over visits, in their order
+unfoldable pub tally : Net → Kept → List Visit → Kept
 tally net a [] = a
 tally net a (v ∷ vs) = tally net (with-visit net a v) vs
+
+-- ---- to nine digits
 
 -- "The lower total, the cut total and the sum of both uppers go to nine digits last, outward."
 unfoldable pub finish : Totals → Report
@@ -81,3 +114,7 @@ finish a = record {
   cuts = a .cuts;
   steps = a .steps;
 }
+
+-- a row's, "rounded as the report's are": of no cut path
+unfoldable pub finish-row : ℕ → RowTotals → Row
+finish-row s a = record { state = s; lower = to-nine-down (a .lower); upper = sum-to-nine-up (a .upper) none }

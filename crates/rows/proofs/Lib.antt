@@ -1,0 +1,3 @@
+pub mod RowTotals
+pub mod RowNames
+pub mod RowsStored
