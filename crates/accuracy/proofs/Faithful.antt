@@ -2,6 +2,11 @@
 use Rattle.accuracy.specs.Faithful.{FaithfulExact}
 use Rattle.accuracy.proofs.Divisors.{no-zero-exact-divisor}
 use Rattle.accuracy.proofs.Examples.{exact-examples-agree}
+use Rattle.accuracy.proofs.RowExamples.{exact-rows-agree}
 
 pub faithful-exact : FaithfulExact
-faithful-exact = record { no-zero-exact-divisor = no-zero-exact-divisor; exact-examples-agree = exact-examples-agree }
+faithful-exact = record {
+  no-zero-exact-divisor = no-zero-exact-divisor;
+  exact-examples-agree = exact-examples-agree;
+  exact-rows-agree = exact-rows-agree;
+}

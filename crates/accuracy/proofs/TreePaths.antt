@@ -1,5 +1,5 @@
 -- The ended paths of a valid model's cut tree: their steps are exits of the model, at most 24, so their uppers are near and their lowers short. Hence
--- the accuracy rule of the report on the tree, for any grains and then for document 01's. Assumes nothing.
+-- the accuracy rule of any lists of such paths, for any grains and then for document 01's, and that of the report on the tree. Assumes nothing.
 use mathlib.Core.Bool.{Bool}
 use mathlib.Core.HLevel.{×-prop}
 use mathlib.Core.Logic.{∥∥₁-elim}
@@ -20,7 +20,7 @@ use Rattle.tree.specs.Upper.{upper}
 use Rattle.tree.specs.Grains.{grains}
 use Rattle.tree.specs.Lower.{lower-with, lower}
 use Rattle.tree.specs.Tree.{Outcome, Visit, tree, paths, deaths, cuts}
-use Rattle.tree.specs.Report.{report-on}
+use Rattle.tree.specs.Report.{report-of, report-on}
 use Rattle.tree.proofs.Positive.{ValidSteps, exits-valid}
 use Rattle.tree.proofs.Least.{GrainsOf, grains-of-class}
 use Rattle.tree.proofs.Ended.{ended-at-most, InTree, paths-in-tree}
@@ -60,38 +60,34 @@ module _ {m : Model} (valid : Valid m) where
 
   -- ---- the ended paths
 
-  record Good (p : Path) : Type 0 where
+  pub record Good (p : Path) : Type 0 where
     steps : ValidSteps p
     few : length p ≤ 24
 
-  ended-good : (test : Outcome → Bool) → Each Good (paths test visits)
+  pub ended-good : (test : Outcome → Bool) → Each Good (paths test visits)
   ended-good test = each-monotone (InTree net (m .limits) test) Good
       (λ p h. record { steps = path-valid valid p (h .formed .is-path); few = omega (arith, h .deep, valid .steps-high) })
       (paths test visits) (paths-in-tree net (m .limits) test)
 
-  -- what holds of a path that is good holds of every ended path
-  ended : (Q : Path → Type 0) → ((p : Path) → Good p → Q p) → (test : Outcome → Bool) → Each Q (paths test visits)
-  ended Q f test = each-monotone Good Q f (paths test visits) (ended-good test)
+  -- ---- any paths that are good
 
-  uppers-near : (test : Outcome → Bool) → Each (λ p. NearTo 456 (upper net p) (exact-upper net p)) (paths test visits)
-  uppers-near = ended _ (λ p h. near-to (exact-upper-is net p) (upper-near valid p (h .steps) (h .few)))
+  uppers-near : (ps : List Path) → Each Good ps → Each (λ p. NearTo 456 (upper net p) (exact-upper net p)) ps
+  uppers-near = each-monotone Good _ (λ p h. near-to (exact-upper-is net p) (upper-near valid p (h .steps) (h .few)))
 
-  -- ---- any grains: g gives those of the steps of a path and may look at the whole path; each class 2 or 3 step has at least one
-
+  -- any grains: g gives those of the steps of a path and may look at the whole path; each class 2 or 3 step has at least one
   module _ (g : Path → Transition → ℕ) (grained : (p : Path) → GrainedSteps net (g p) p) where
-    lowers-short : (test : Outcome → Bool)
-        → Each (λ p. ShortOf 1500 (lower-with net (g p) p) (exact-lower-with net (g p) p) (exact-upper net p)) (paths test visits)
-    lowers-short = ended _ (λ p h. short-of (exact-lower-is net (g p) p) (exact-upper-is net p)
+    lowers-short : (ps : List Path) → Each Good ps
+        → Each (λ p. ShortOf 1500 (lower-with net (g p) p) (exact-lower-with net (g p) p) (exact-upper net p)) ps
+    lowers-short = each-monotone Good _ (λ p h. short-of (exact-lower-is net (g p) p) (exact-upper-is net p)
         (lower-short valid (g p) p (h .steps) (grained p) (h .few)))
 
-    pub any-grains-accurate : length visits ≤ 1000000
-        → AccurateSums (exact-upper net) (λ p. exact-lower-with net (g p) p) (deaths visits) (cuts visits)
-        (sum-to-nine-up (total-of-uppers (upper net) (deaths visits)) (total-of-uppers (upper net) (cuts visits)))
-        (to-nine-down (total-of-lowers (λ p. lower-with net (g p) p) (deaths visits))) (to-nine-up (total-of-uppers (upper net) (cuts visits)))
-    any-grains-accurate few =
+    pub any-grains-accurate : (ds cs : List Path) → Each Good ds → Each Good cs → length ds ≤ 1000000 → length cs ≤ 1000000
+        → AccurateSums (exact-upper net) (λ p. exact-lower-with net (g p) p) ds cs
+        (sum-to-nine-up (total-of-uppers (upper net) ds) (total-of-uppers (upper net) cs))
+        (to-nine-down (total-of-lowers (λ p. lower-with net (g p) p) ds)) (to-nine-up (total-of-uppers (upper net) cs))
+    any-grains-accurate ds cs good-ds good-cs few-ds few-cs =
         sums-accurate (exact-upper net) (λ p. exact-lower-with net (g p) p) (upper net) (λ p. lower-with net (g p) p)
-        456 1500 (lit≤ tt) (lit≤ tt) (deaths visits) (cuts visits)
-        (omega (arith, ended-at-most visits)) (omega (arith, ended-at-most visits)) (uppers-near _) (uppers-near _) (lowers-short _)
+        456 1500 (lit≤ tt) (lit≤ tt) ds cs few-ds few-cs (uppers-near ds good-ds) (uppers-near cs good-cs) (lowers-short ds good-ds)
 
   -- ---- document 01's grains
 
@@ -104,6 +100,14 @@ module _ {m : Model} (valid : Valid m) where
       go class2 n h = h .0
       go class3 n h = h .0
 
+  pub paths-accurate : (ds cs : List Path) (steps : ℕ) → Each Good ds → Each Good cs → length ds ≤ 1000000 → length cs ≤ 1000000
+      → Accurate net ds cs (report-of net ds cs steps)
+  unfolding lower exact-lower
+  paths-accurate ds cs steps good-ds good-cs few-ds few-cs =
+      report-accurate net ds cs steps (any-grains-accurate (grains net) grains-grained ds cs good-ds good-cs few-ds few-cs)
+
   pub tree-accurate : length visits ≤ 1000000 → Accurate net (deaths visits) (cuts visits) (report-on net visits)
-  unfolding report-on lower exact-lower
-  tree-accurate few = report-accurate net (deaths visits) (cuts visits) (length visits) (any-grains-accurate (grains net) grains-grained few)
+  unfolding report-on
+  tree-accurate few =
+      paths-accurate (deaths visits) (cuts visits) (length visits) (ended-good _) (ended-good _)
+      (omega (arith, ended-at-most visits)) (omega (arith, ended-at-most visits))

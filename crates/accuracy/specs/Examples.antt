@@ -14,7 +14,7 @@ use Rattle.tree.specs.Pinned.{quantity, slow-step, fast-step, net-of, slow-tent
 use Rattle.accuracy.specs.Rule.{exact-upper-sum, exact-lower-sum, death-upper-sum, cut-upper-sum}
 
 -- the fraction c / 10^p
-abbrev decimal : ℕ → ℕ → Fraction
+abbrev pub decimal : ℕ → ℕ → Fraction
 decimal c p = ratio (pos c) (10 ^ p)
 
 -- step limit L and prune level P; the entry limit V is 1
@@ -22,7 +22,7 @@ abbrev limits-of : ℕ → Quantity → Limits
 limits-of l p = record { step-limit = l; entry-limit = 1; prune = p }
 
 -- L 24, V 1, P 0
-abbrev wide : Limits
+abbrev pub wide : Limits
 wide = limits-of 24 (quantity 0 0)
 
 -- from 1 to b with mean 4E-3, deviation 3E-3 and probability c / 10^6
@@ -96,7 +96,7 @@ cut-by-level = record {
 -- T 1, L 1: two class 3 deaths, and two class 2 steps that are cut. h = 0.25 × 3E-4 + 0.75 × 1E-4 = 1.5E-4. H = 0.25 × 9E-8 + 0.75 × (1E-8 + 4E-8)
 -- = 6E-8. Uppers: deaths 0.1 × h + 0.3 × h = 6E-5, cuts 0.25 + 0.75. n: g = 10^12 × 6E-8 / 1.5E-4 = 4 × 10^8 = 20,000², s = 0.02. E = 0.1 + 0.3.
 -- h − 0.4 × H / 2 − H / s = 1.5E-4 − 1.2E-8 − 3E-6 = 1.46988E-4. k = 0 and A = 0, so the lowers are 0.1 and 0.3 times that: 5.87952E-5.
-abbrev class3-deaths : Example
+abbrev pub class3-deaths : Example
 class3-deaths = record {
   time = quantity 1 0;
   limits = limits-of 1 (quantity 0 0);

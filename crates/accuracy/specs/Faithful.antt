@@ -13,6 +13,7 @@ use Rattle.tree.specs.Paths.{Path, class1, class, class1-count}
 use Rattle.tree.specs.Grains.{grains}
 use Rattle.accuracy.specs.Bounds.{factorial, grain-time}
 use Rattle.accuracy.specs.Examples.{ExactExamplesAgree}
+use Rattle.accuracy.specs.RowExamples.{ExactRowsAgree}
 
 -- ---- divisors
 
@@ -41,3 +42,5 @@ pub record FaithfulExact : Type 0 where
   pub no-zero-exact-divisor : NoZeroExactDivisor
   -- the exact sums of small models are what is worked out by hand
   pub exact-examples-agree : ExactExamplesAgree
+  -- so are those of single rows, document 02, Item 1
+  pub exact-rows-agree : ExactRowsAgree

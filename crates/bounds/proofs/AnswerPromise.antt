@@ -5,29 +5,19 @@ use mathlib.Core.Bool.{true, false}
 use mathlib.Core.List.{List}
 use native.Mathlib.Decide.{decLe}
 use native.Mathlib.Nat.{lt-of-not-le}
-use lib.Dec.{ltb}
 use lib.ListN.{length}
 use Rattle.word.specs.Model.{Model}
 use Rattle.word.specs.Answer as answers
 use Rattle.model.specs.Reading as reading
-use Rattle.word.specs.declared.Refusal.{Refusal}
-use Rattle.word.specs.declared.Refusal.the-variants.{OverBudget}
-use Rattle.word.specs.Refusal.{number, place}
 use Rattle.model.proofs.Refusals.{refused-not-granted}
 use Rattle.tree.specs.Tree.{tree}
 use Rattle.tree.specs.Report as definition
-use Rattle.tree.specs.Internal.Tally as running
-use Rattle.tree.proofs.Answer.{walked-over, walked-within, answer-refused, answer-read, walk-refused, walk-reported}
+use Rattle.tree.proofs.Answer.{walked-over, walked-within, answer-read}
 use Rattle.accuracy.specs.Rule.{AccuracyRule}
 use Rattle.accuracy.proofs.Theorem.{accuracy-theorem}
 use Rattle.bounds.proofs.Faithful.{faithful}
-use Rattle.bounds.specs.declared.Report.{Report}
 use Rattle.bounds.specs.declared.Answer.{Answer}
-use Rattle.bounds.specs.declared.Answer.the-variants.{Report as reported, Refused}
-use Rattle.path.specs.declared.totals.Totals.{Totals}
-use Rattle.path.specs.Internal.Totals.{totals-of, nothing-yet}
-use Rattle.bounds.specs.Internal.Walk.{EndsOver}
-use Rattle.bounds.specs.Answers.{Promised, answer-of, report-of}
+use Rattle.bounds.specs.Answers.{Promised, answer-of}
 
 -- what was granted, or something else for a refusal
 abbrev granted-or : {A : Type 0} → A → answers.Answer A → A
@@ -72,16 +62,3 @@ promise ws after budget r kept is = record {
   over-refused = λ m read e. only-over ws budget (answer-of r) is m read e;
   faithful = faithful;
 }
-
--- ---- the three ways that an answer comes about
-
-module _ (ws : List ℕ) (budget : ℕ) where
-  pub refused-is : (f : Refusal) → reading.read ws budget ≡ answers.refused (number f) (place f) → answer-of (Refused f) ≡ definition.answer ws budget
-  refused-is f e = sym (answer-refused ws budget (number f) (place f) e)
-
-  module _ (m : Model) (read : reading.read ws budget ≡ answers.granted m) (t : Totals) (ends : EndsOver (m .net) budget nothing-yet (tree (m .net) (m .limits)) t) where
-    pub over-is : ltb budget (t .steps) ≡ true → answer-of (Refused OverBudget) ≡ definition.answer ws budget
-    over-is o = sym (answer-read ws budget m read ∙ walk-refused budget m (ltb budget (t .steps)) (totals-of t) ends o)
-
-    pub report-is : (q : Report) → report-of q ≡ running.finish (totals-of t) → ltb budget (t .steps) ≡ false → answer-of (reported q) ≡ definition.answer ws budget
-    report-is q e o = ap answers.granted e ∙ sym (answer-read ws budget m read ∙ walk-reported budget m (ltb budget (t .steps)) (totals-of t) ends o)

@@ -1,7 +1,8 @@
--- The definitions are what document 01 says of them: the laws of every layer. Assumes nothing.
+-- The definitions are what the documents say of them: the laws of every layer. Assumes nothing.
 use Rattle.figure.proofs.Faithful.{faithful-figures}
 use Rattle.model.proofs.Numbers.{reason-refuses, refusal-reason}
 use Rattle.tree.proofs.Faithful.{faithful-tree}
+use Rattle.tree.proofs.RowsFaithful.{faithful-rows}
 use Rattle.accuracy.proofs.Faithful.{faithful-exact}
 use Rattle.bounds.specs.Faithful.{Faithful}
 
@@ -12,4 +13,5 @@ faithful = record {
   refusal-has-reason = refusal-reason;
   tree = faithful-tree;
   exact = faithful-exact;
+  rows = faithful-rows;
 }

@@ -4,6 +4,7 @@ use mathlib.Core.Path.{_≡_, refl, sym, ap, ap₂, _∙_, subst}
 use mathlib.Core.Bool.{true, false}
 use mathlib.Core.List.{List, _∷_}
 use native.Mathlib.Omega.{arith}
+use native.Mathlib.Nat.{le-trans}
 use native.Mathlib.Numerals.{add-one}
 use lib.Dec.{ltb, eqb, lit≤}
 use lib.ListN.{length, getD, set, length-set}
@@ -24,7 +25,7 @@ use Rattle.tree.specs.Lower.{lower}
 use Rattle.tree.specs.Tree.{Outcome, is-death, is-continued}
 use Rattle.tree.proofs.Outcomes.{is-continued-true}
 use Rattle.tree.proofs.Ranges.{any-upper-sized, prune-sized}
-use Rattle.tree.specs.Internal.Tally.{with-step, with-cut, with-death, noted, with-visit}
+use Rattle.tree.specs.Internal.Tally.{with-step, with-cut, with-death, row-with-death, noted, with-visit}
 use Rattle.tree.specs.Internal.Carried.{Carried, Carries, carry, outcome-by, outcome-next}
 use Rattle.tree.proofs.Carried.{carry-upper, carry-carries, GoesOnBy, continued-by}
 use Rattle.tree.proofs.Going.{exit-totals, exit-within, exit-ended, exit-back, exit-below-over}
@@ -36,13 +37,15 @@ use Rattle.path.specs.declared.exits.Exit.{Exit}
 use Rattle.path.specs.Internal.Lent.{Lent, model-in, net-in, limits-in}
 use Rattle.path.specs.Internal.Paths.{path-of}
 use Rattle.path.specs.Internal.Totals.{totals-of, Counted}
+use Rattle.rows.specs.Internal.Table.{totals-in, NamesKept, RowRoom}
+use Rattle.rows.proofs.RowTotals.{row-counted, row-room, names-then}
 use Rattle.path.specs.Internal.Outcomes.{outcome-of, judged}
 use Rattle.path.specs.Internal.Exits.{tip-after, ExitOf}
 use Rattle.path.specs.Internal.Deaths.{LastStep, Cached}
-use Rattle.bounds.specs.Internal.Walk.{Asked, asked, carried-of, carried-in, Ready, Ends, EndsOver, visits-from}
+use Rattle.bounds.specs.Internal.Walk.{Asked, asked, carried-of, carried-in, kept-of, KeptCounted, Ready, Ends, EndsOver, visits-from}
 use Rattle.path.proofs.PathArrays.{below-same, path-longer, known-longer}
 use Rattle.path.proofs.TotalsNoted.{note-death, note-step, note-cut}
-use Rattle.bounds.proofs.WalkLoop.{Held, held, AtExit, state-small, room, path-short, steps-valid, is-exit, ends-by}
+use Rattle.bounds.proofs.WalkLoop.{Held, held, AtExit, step-counted, state-small, room, path-short, steps-valid, is-exit, ends-by}
 
 module _ (l : Lent) (a : Asked) (h : Held) (x : Exit) where
   -- exit i is there and was read, and the budget has room for a step
@@ -66,12 +69,13 @@ module _ (l : Lent) (a : Asked) (h : Held) (x : Exit) where
   lower-there = lower (net-in l) (transition (net-in l) (x .index) ∷ path-before)
 
   -- the path through it was judged and noted
-  pub record Visited (o : Coded) (after : Totals) (cache : Cache) : Type 0 where
+  pub record Visited (o : Coded) (after : Totals) (cache : Cache) (rows : List ℕ) : Type 0 where
     pub turn : Turn
     pub judged-is : outcome-of o ≡ judged-there
-    pub totals-are : totals-of after ≡ noted (totals-of (h .sums)) (outcome-of o) lower-there (x .tip .upper)
+    pub kept-is : kept-of after rows ≡ noted (kept-of (h .sums) (h .rows)) (outcome-of o) (x .tip .state) lower-there (x .tip .upper)
     pub cached : Cached (net-in l) path-before (a .tip .state) cache
-    pub counted : Counted after
+    pub counted : KeptCounted after rows
+    pub names-kept : NamesKept (h .rows) rows
 
 -- ---- the exit
 
@@ -155,38 +159,71 @@ module _ {l : Lent} {a : Asked} {h : Held} {x : Exit} (w : Turn l a h x) where
     leaves = sym leaves;
   }
 
+  some-left : h .sums .steps < 1000000
+  some-left = omega (arith, w .kept .going .within, w .some, w .ready .task-is .budget-high)
+
+  upper-fits : Sized 9 35000 (x .tip .upper)
+  upper-fits = sized-≤ (lit≤ tt) upper-sized
+
   pub note-figures : Counted (h .sums) × (h .sums .steps < 1000000) × Sized 9 35000 (x .tip .upper)
-  note-figures = (
-    w .kept .counted,
-    omega (arith, w .kept .going .within, w .some, w .ready .task-is .budget-high),
-    sized-≤ (lit≤ tt) upper-sized,
-  )
+  note-figures = (w .kept .counted .totals, some-left, upper-fits)
+
+  -- a row may have one term more
+  pub row-figures : (x .tip .state ≤ 1000) × (length (h .rows) ≡ 5006) × RowRoom (totals-in (h .rows) (x .tip .state))
+  row-figures = (there-small, w .kept .counted .size, row-room some-left (w .kept .counted .each-row (x .tip .state)))
 
   -- ---- the path through it is noted
 
   module _ (o : Coded) (is : outcome-of o ≡ judged-there l a h x) {after : Totals} (counted : Counted after) where
-    noted-as : {cache : Cache} → totals-of after ≡ noted (totals-of (h .sums)) (outcome-of o) (lower-there l a h x) (x .tip .upper)
-        → Cached net (path-before l a h x) (a .tip .state) cache → Visited l a h x o after cache
-    noted-as more cached = record { turn = w; judged-is = is; totals-are = more; cached = cached; counted = counted }
-
     -- as a death, of the lower f
-    pub death-noted : is-death (outcome-of o) ≡ true → {f : Figure} → f ≡ lower-there l a h x
+    pub death-noted : is-death (outcome-of o) ≡ true → {f : Figure} → Sized 9 35000 f → f ≡ lower-there l a h x
         → totals-of after ≡ with-death (totals-of (h .sums)) f (x .tip .upper)
-        → {cache : Cache} → Cached net (path-before l a h x) (a .tip .state) cache → Visited l a h x o after cache
-    death-noted on low more cached = noted-as (note-death _ _ _ _ more low on) cached
+        → {rows : List ℕ} → totals-in rows ≡ row-with-death (totals-in (h .rows)) (x .tip .state) f (x .tip .upper) → NamesKept (h .rows) rows
+        → {cache : Cache} → Cached net (path-before l a h x) (a .tip .state) cache → Visited l a h x o after cache rows
+    unfolding with-death
+    death-noted on {f} low f-is more {rows} more-rows names cached =
+        let one : after .steps ≡ h .sums .steps + 1 = ap (λ t. t .steps) more in
+        record {
+          turn = w;
+          judged-is = is;
+          kept-is = note-death _ _ _ _ _ more more-rows f-is on;
+          cached = cached;
+          counted = record {
+            totals = counted;
+            each-row = λ s. rw (one, more-rows)
+                (row-counted (totals-in (h .rows)) (x .tip .state) f (x .tip .upper) (le-trans some-left (lit≤ tt)) low upper-fits (w .kept .counted .each-row) s);
+            size = names .size ∙ w .kept .counted .size;
+          };
+          names-kept = names;
+        }
+
+    -- as what changes no row
+    other-noted : after .steps ≡ h .sums .steps + 1
+        → kept-of after (h .rows) ≡ noted (kept-of (h .sums) (h .rows)) (outcome-of o) (x .tip .state) (lower-there l a h x) (x .tip .upper)
+        → Visited l a h x o after (h .cache) (h .rows)
+    other-noted one more = record {
+      turn = w;
+      judged-is = is;
+      kept-is = more;
+      cached = w .kept .cached;
+      counted = step-counted counted one (w .kept .counted);
+      names-kept = record { size = refl; same = λ i low. refl };
+    }
 
     -- as a step that ends no path
-    pub step-noted : is-continued (outcome-of o) ≡ true → totals-of after ≡ with-step (totals-of (h .sums)) → Visited l a h x o after (h .cache)
-    step-noted on more = noted-as (note-step _ _ _ _ more on) (w .kept .cached)
+    pub step-noted : is-continued (outcome-of o) ≡ true → totals-of after ≡ with-step (totals-of (h .sums)) → Visited l a h x o after (h .cache) (h .rows)
+    unfolding with-step
+    step-noted on more = other-noted (ap (λ t. t .steps) more) (note-step _ _ _ _ _ more refl on)
 
     -- as a cut
     pub cut-noted : is-death (outcome-of o) ≡ false → is-continued (outcome-of o) ≡ false
-        → totals-of after ≡ with-cut (totals-of (h .sums)) (x .tip .upper) → Visited l a h x o after (h .cache)
-    cut-noted off ended more = noted-as (note-cut _ _ _ _ more off ended) (w .kept .cached)
+        → totals-of after ≡ with-cut (totals-of (h .sums)) (x .tip .upper) → Visited l a h x o after (h .cache) (h .rows)
+    unfolding with-cut
+    cut-noted off ended more = other-noted (ap (λ t. t .steps) more) (note-cut _ _ _ _ _ more refl off ended)
 
 -- ---- the visit
 
-module _ {l : Lent} {a : Asked} {h : Held} {x : Exit} {o : Coded} {after : Totals} {cache : Cache} (v : Visited l a h x o after cache) where
+module _ {l : Lent} {a : Asked} {h : Held} {x : Exit} {o : Coded} {after : Totals} {cache : Cache} {rows : List ℕ} (v : Visited l a h x o after cache rows) where
   abbrev w : Turn l a h x
   w = v .turn
 
@@ -212,32 +249,34 @@ module _ {l : Lent} {a : Asked} {h : Held} {x : Exit} {o : Coded} {after : Total
       let u = w .ready .task-is .level-is in
       cc (v .judged-is)
 
-  visit-is : totals-of after
-      ≡ with-visit (net w) (totals-of (h .sums)) (record { path = exit w ∷ path-before l a h x; outcome = outcome-there w })
+  visit-is : kept-of after rows
+      ≡ with-visit (net w) (kept-of (h .sums) (h .rows)) (record { path = exit w ∷ path-before l a h x; outcome = outcome-there w })
   visit-is =
-      v .totals-are
+      v .kept-is
       ∙ same
-      ∙ exit-totals (net w) (limits-in l) (a .task .budget) (a .left - 1) (here w) (totals-of (a .totals)) (h .i) (totals-of (h .sums)) on-exit
+      ∙ exit-totals (net w) (limits-in l) (a .task .budget) (a .left - 1) (here w) (kept-of (a .totals) (a .rows)) (h .i) (kept-of (h .sums) (h .rows)) on-exit
       (w .kept .going) (to-small w) (w .ready .carries)
     where
-      same : noted (totals-of (h .sums)) (outcome-of o) (lower-there l a h x) (x .tip .upper)
-          ≡ noted (totals-of (h .sums)) (outcome-there w) (lower (net w) (exit w ∷ path-before l a h x)) (next w .upper)
+      same : noted (kept-of (h .sums) (h .rows)) (outcome-of o) (x .tip .state) (lower-there l a h x) (x .tip .upper)
+          ≡ noted (kept-of (h .sums) (h .rows)) (outcome-there w) (exit w .to) (lower (net w) (exit w ∷ path-before l a h x)) (next w .upper)
       same =
           let p = outcome-is in
           let q = exit-is w in
           let r = upper-is w in
+          let s = state-is w in
           cc
 
   -- the path is ended
-  pub visit-ended : is-continued (outcome-of o) ≡ false → AtExit l a (held (h .i + 1) (h .entered) (h .taken) after cache)
+  pub visit-ended : is-continued (outcome-of o) ≡ false → AtExit l a (held (h .i + 1) (h .entered) (h .taken) after cache rows)
   visit-ended off = record {
     set-back = w .kept .set-back;
     size = w .kept .size;
     same = w .kept .same;
     cached = v .cached;
     counted = v .counted;
-    going = rw (add-one (h .i)) (exit-ended (net w) (limits-in l) (a .task .budget) (a .left - 1) (here w) (totals-of (a .totals)) (h .i)
-        (totals-of (h .sums)) on-exit (w .kept .going) (totals-of after) visit-is (w .some) (ap is-continued (sym outcome-is) ∙ off));
+    names-kept = names-then (w .kept .names-kept) (v .names-kept);
+    going = rw (add-one (h .i)) (exit-ended (net w) (limits-in l) (a .task .budget) (a .left - 1) (here w) (kept-of (a .totals) (a .rows)) (h .i)
+        (kept-of (h .sums) (h .rows)) on-exit (w .kept .going) (kept-of after rows) visit-is (w .some) (ap is-continued (sym outcome-is) ∙ off));
   }
 
   -- the path goes on: its last state is entered once more, and its step is written down
@@ -261,7 +300,7 @@ module _ {l : Lent} {a : Asked} {h : Held} {x : Exit} {o : Coded} {after : Total
 
     -- what the walk beyond is asked for
     abbrev pub asked-there : Asked
-    asked-there = asked (a .task) (x .tip) (a .left - 1) entered-there taken-there after
+    asked-there = asked (a .task) (x .tip) (a .left - 1) entered-there taken-there after rows
 
     deeper : carried-in l asked-there ≡ next w
     unfolding tip-after carry
@@ -283,29 +322,29 @@ module _ {l : Lent} {a : Asked} {h : Held} {x : Exit} {o : Coded} {after : Total
       depth = omega (arith, len-is w, w .ready .depth, w .ready .more);
       more = goes-on .left;
       counted = v .counted;
-      within = exit-within (net w) (limits-in l) (a .task .budget) (a .left - 1) (here w) (totals-of (a .totals)) (h .i) (totals-of (h .sums)) on-exit
-          (w .kept .going) (totals-of after) visit-is (w .some);
+      within = exit-within (net w) (limits-in l) (a .task .budget) (a .left - 1) (here w) (kept-of (a .totals) (a .rows)) (h .i) (kept-of (h .sums) (h .rows)) on-exit
+          (w .kept .going) (kept-of after rows) visit-is (w .some);
     }
 
     continues : is-continued (outcome-there w) ≡ true
     continues = ap is-continued (sym outcome-is) ∙ on
 
-    -- r is what the walk beyond hands back
-    module _ {r : Totals} (ends : Ends l asked-there r) where
-      beyond : EndsOver (net w) (a .task .budget) after (visits-from l (a .left - 1) (next w)) r
-      beyond = subst (λ k. EndsOver (net w) (a .task .budget) after (visits-from l (a .left - 1) k) r) deeper ends
+    -- r is what the walk beyond hands back, and rows′ the table of rows then
+    module _ {r : Totals} (rows′ : List ℕ) (ends : Ends l asked-there r rows′) where
+      beyond : EndsOver (net w) (a .task .budget) (kept-of after rows) (visits-from l (a .left - 1) (next w)) r rows′
+      beyond = subst (λ k. EndsOver (net w) (a .task .budget) (kept-of after rows) (visits-from l (a .left - 1) k) r rows′) deeper ends
 
-      pub visit-over : a .task .budget < r .steps → Ends l a r
+      pub visit-over : a .task .budget < r .steps → Ends l a r rows′
       visit-over past =
-          ends-by (w .ready) (ltb (a .task .budget) (r .steps)) refl
-          (exit-below-over (net w) (limits-in l) (a .task .budget) (a .left - 1) (here w) (totals-of (a .totals)) (h .i) (totals-of (h .sums)) on-exit
-          (w .kept .going) (totals-of after) visit-is (w .some) continues (ltb (a .task .budget) (r .steps)) (totals-of r) beyond
+          ends-by (w .ready) (ltb (a .task .budget) (r .steps)) rows′ refl
+          (exit-below-over (net w) (limits-in l) (a .task .budget) (a .left - 1) (here w) (kept-of (a .totals) (a .rows)) (h .i) (kept-of (h .sums) (h .rows)) on-exit
+          (w .kept .going) (kept-of after rows) visit-is (w .some) continues (ltb (a .task .budget) (r .steps)) (kept-of r rows′) beyond
           (lt-ltb (a .task .budget) (r .steps) past))
 
       -- the entry count is set back
-      pub visit-back : Counted r → r .steps ≤ a .task .budget
-          → AtExit l a (held (h .i + 1) (set entered-there (x .tip .state) (getD (h .entered) (x .tip .state) 0)) taken-there r cache)
-      visit-back counted within = record {
+      pub visit-back : KeptCounted r rows′ → NamesKept rows rows′ → r .steps ≤ a .task .budget
+          → AtExit l a (held (h .i + 1) (set entered-there (x .tip .state) (getD (h .entered) (x .tip .state) 0)) taken-there r cache rows′)
+      visit-back counted names within = record {
         set-back =
             set-set (h .entered) (x .tip .state) (getD (h .entered) (x .tip .state) 0 + 1) (getD (h .entered) (x .tip .state) 0)
             ∙ set-getD (h .entered) (x .tip .state) 0
@@ -314,7 +353,8 @@ module _ {l : Lent} {a : Asked} {h : Held} {x : Exit} {o : Coded} {after : Total
         same = below-same (h .taken) (a .path) (a .tip .len) (x .index) (w .kept .same);
         cached = v .cached;
         counted = counted;
-        going = rw (add-one (h .i)) (exit-back (net w) (limits-in l) (a .task .budget) (a .left - 1) (here w) (totals-of (a .totals)) (h .i)
-            (totals-of (h .sums)) on-exit (w .kept .going) (totals-of after) visit-is (w .some) continues (ltb (a .task .budget) (r .steps))
-            (totals-of r) beyond (le-ltb (a .task .budget) (r .steps) within));
+        names-kept = names-then (names-then (w .kept .names-kept) (v .names-kept)) names;
+        going = rw (add-one (h .i)) (exit-back (net w) (limits-in l) (a .task .budget) (a .left - 1) (here w) (kept-of (a .totals) (a .rows)) (h .i)
+            (kept-of (h .sums) (h .rows)) on-exit (w .kept .going) (kept-of after rows) visit-is (w .some) continues (ltb (a .task .budget) (r .steps))
+            (kept-of r rows′) beyond (le-ltb (a .task .budget) (r .steps) within));
       }

@@ -1,8 +1,9 @@
--- What document 01 says in words, where the definitions compute: the statements of every layer, in one record. The contract of `unreliability`
--- carries it, so that none of them can go missing. Assumes nothing: these are statements.
+-- What the documents say in words, where the definitions compute: the statements of every layer, in one record. The contracts of `unreliability`
+-- and `unreliability_by_state` carry it, so that none of them can go missing. Assumes nothing: these are statements.
 use Rattle.figure.specs.Faithful.{FaithfulFigures}
 use Rattle.model.specs.Reasons.{ReasonIsRefused, RefusalHasReason}
 use Rattle.tree.specs.Faithful.{FaithfulTree}
+use Rattle.tree.specs.RowsFaithful.{FaithfulRows}
 use Rattle.accuracy.specs.Faithful.{FaithfulExact}
 
 pub record Faithful : Type 0 where
@@ -15,3 +16,5 @@ pub record Faithful : Type 0 where
   pub tree : FaithfulTree
   -- the exact bounds: divisors, and models whose sums are worked out by hand
   pub exact : FaithfulExact
+  -- document 02, Item 1: the rows
+  pub rows : FaithfulRows

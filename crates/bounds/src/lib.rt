@@ -1,6 +1,7 @@
 // From a model's words to a report: the index and the tables, the walk over the cut tree, the answer and the rows.
 ghost use mathlib.Core.Path.{_≡_};
 ghost use Prim.Native.Nat.{_≤_};
+ghost use lib.ListN.{length};
 ghost use Rattle.model.specs.Promise.{summary};
 ghost use Rattle.tree.specs.Internal.Tally as running;
 ghost use Rattle.tables.specs.Internal.Described.{Indexes, described};
@@ -50,7 +51,7 @@ pub enum Answer {
 // The totals of the walk over the tree of an accepted model, or totals whose steps are above the budget; those of rows are kept in `rows`.
 fn walked(words: &[u32], index: &Index, a: Accepted, budget: u64, rows: &mut RowTable) -> Totals
     requires { ⌜ Indexes (now words) (now index) × (a ≡ summary (described (now words))) × (budget ≤ 1000000) ⌝ }
-    requires { ⌜ totals-in (now rows) ≡ running.zero-row-totals ⌝ }
+    requires { ⌜ (length (now rows) ≡ 5006) × (totals-in (now rows) ≡ running.zero-row-totals) ⌝ }
     ensures { λ r. ⌜ WalkedTree (now (words .entry)) budget r (now (rows .entry)) (now (rows .exit)) ⌝ }
 {
     let mut table: Table = [0; 16004];

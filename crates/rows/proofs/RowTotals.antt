@@ -1,7 +1,7 @@
 -- Totals in the table of rows: what is written is read again, and one death path more changes its own state's totals alone. Assumes nothing.
-use Prim.Native.Nat.{ℕ, _+_, _*_, _%_, _≤_, _<_}
+use Prim.Native.Nat.{ℕ, _+_, _*_, _%_, _^_, _≤_, _<_}
 use mathlib.Core.Path.{_≡_, refl, sym, ap, ap₂, _∙_, subst}
-use mathlib.Core.Bool.{true, false}
+use mathlib.Core.Bool.{Bool, true, false}
 use mathlib.Core.List.{List}
 use native.Mathlib.Omega.{arith}
 use native.Mathlib.Nat.{le-trans, lt-of-not-le}
@@ -17,9 +17,9 @@ use Rattle.figure.specs.Rounding.{figure, none, IsFigure, is-zero, is-whole}
 use Rattle.figure.specs.Operands.{Sized, Operand}
 use Rattle.figure.specs.Operations.{total-up, total-down}
 use Rattle.figure.proofs.Stored.{stored, kept, mag-difference}
-use Rattle.figure.proofs.Sized.{sized-≤}
+use Rattle.figure.proofs.Gathered.{gathered-more}
 use Rattle.tree.specs.Internal.Tally.{RowTotals, row-totals-with, row-with-death}
-use Rattle.tree.proofs.Ranges.{total-up-more, total-down-more, total-operand}
+use Rattle.tree.proofs.Ranges.{total-up-more, total-down-more, total-same, total-operand}
 use Rattle.tables.proofs.Packed.{raised-back}
 use Rattle.rows.specs.Internal.Table.{total-of, total-in, totals-in, Put, NamesKept, RowGathered, RowRoom}
 
@@ -156,3 +156,21 @@ module _ {t : RowTotals} (room : RowRoom t) where
 
   pub upper-more-operand : (a : Figure) → Sized 9 35000 a → Operand 18 (total-up (t .upper) a)
   upper-more-operand a h = total-operand (total-up-more (room .upper) (lit≤ tt) h) (lit≤ tt)
+
+-- with one death path more, of n before it
+pub row-counted : {n : ℕ} (rows : ℕ → RowTotals) (last : ℕ) (l u : Figure) → n < 10 ^ 9 → Sized 9 35000 l → Sized 9 35000 u
+    → ((s : ℕ) → RowGathered n (rows s)) → (s : ℕ) → RowGathered (n + 1) (row-with-death rows last l u s)
+unfolding row-with-death
+row-counted {n} rows last l u few low high h s = go (eqb last s)
+  where
+    go : (b : Bool) → RowGathered (n + 1) (elim b [ true ↦ row-totals-with (rows s) l u | false ↦ rows s ])
+    go true = record { lower = total-down-more (h s .lower) low; upper = total-up-more (h s .upper) few high }
+    go false = record { lower = total-same (h s .lower); upper = total-same (h s .upper) }
+
+pub row-room : {n : ℕ} {t : RowTotals} → n < 1000000 → RowGathered n t → RowRoom t
+row-room few h = record { lower = gathered-more (omega (arith, few)) (h .lower); upper = gathered-more (omega (arith, few)) (h .upper) }
+
+-- ---- names
+
+pub names-then : {a b c : List ℕ} → NamesKept a b → NamesKept b c → NamesKept a c
+names-then h k = record { size = k .size ∙ h .size; same = λ i low. k .same i low ∙ h .same i low }

@@ -19,4 +19,9 @@ pub mod Divisors
 pub mod RemainingTime
 pub mod Ranges
 pub mod Probabilities
+pub mod RowsPinned
+pub mod RowStates
+pub mod RowAnswers
+pub mod RowTables
 pub mod Faithful
+pub mod RowsFaithful

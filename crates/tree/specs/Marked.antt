@@ -42,7 +42,7 @@ model-words edition n c p transitions = word 1 (edition * 2 ^ 12 + n) 1 ∷ quan
 -- ---- what the page says of a model
 
 -- a figure of nine digits, one of them before the point: 9.99500000E-4 is `printed 999500000 (negℤ (pos 4))`
-abbrev printed : ℕ → ℤ → Figure
+abbrev pub printed : ℕ → ℤ → Figure
 printed d e = figure d (e +ℤ negsuc 7)
 
 pub data Statement : Type 0 where
@@ -111,10 +111,10 @@ marked-models =
 
 -- ---- the test of a statement
 
-abbrev same-figure : Figure → Figure → Bool
+abbrev pub same-figure : Figure → Figure → Bool
 same-figure f g = eqb (f .digits) (g .digits) && (leZ (f .power) (g .power) && leZ (g .power) (f .power))
 
-abbrev same-report : Report → Report → Bool
+abbrev pub same-report : Report → Report → Bool
 same-report r s =
     same-figure (r .lower) (s .lower)
     && (same-figure (r .upper) (s .upper)

@@ -12,13 +12,13 @@ fill-requires : tie.Need-fill-requires
 fill-requires c κs = search needs
 
 array-write-entered : tie.Need-array-write-entered
-array-write-entered c = let h = start (c .before .before) .pre in start-below (h .0) (h .1)
+array-write-entered c = let h = start (c .before .before) .pre in start-below (h .0 .0) (h .0 .1)
 
 figure-of-requires : tie.Need-figure-of-requires
-figure-of-requires c κs = let h = start (c .before .before) .pre in time-scale (h .0) (h .1)
+figure-of-requires c κs = let h = start (c .before .before) .pre in time-scale (h .0 .0) (h .0 .1)
 
 figure-of-requires-2 : tie.Need-figure-of-requires-2
-figure-of-requires-2 c κs = let h = start (c .before .before .before) .pre in prune-scale (h .0) (h .1)
+figure-of-requires-2 c κs = let h = start (c .before .before .before) .pre in prune-scale (h .0 .0) (h .0 .1)
 
 of-whole-requires : tie.Need-of-whole-requires
 of-whole-requires c κs = search needs
@@ -28,23 +28,25 @@ nothing-requires c κs = search needs
 
 walk-requires : tie.Need-walk-requires
 walk-requires c κs =
-    let w = c .before .before in
-    let l = w .before in
-    let t = l .before in
-    let f = t .before .before .before in
-    let h = start f .pre in
-    walk-ready (h .0) (h .1) (f .fill .ensures) (t .figure-of .ensures) (l .figure-of2 .ensures) (w .of-whole .ensures) _ (h .2) _ (c .nothing .ensures)
-
-returns : tie.Need-returns
-returns c =
     let n = c .before in
     let w = n .before .before in
     let l = w .before in
     let t = l .before in
     let f = t .before .before .before in
     let h = start f .pre in
-    walk-tree (h .0) (h .1) (f .fill .ensures) (t .figure-of .ensures) (l .figure-of2 .ensures) (w .of-whole .ensures) _ (h .2) _ (n .nothing .ensures)
-    (c .walk .ensures)
+    walk-ready (h .0 .0) (h .0 .1) (f .fill .ensures) (t .figure-of .ensures) (l .figure-of2 .ensures) (w .of-whole .ensures) _ (h .0 .2) _ (n .nothing .ensures)
+    _ (h .1 .0) (h .1 .1)
+
+returns : tie.Need-returns
+returns c =
+    let n = c .before .before in
+    let w = n .before .before in
+    let l = w .before in
+    let t = l .before in
+    let f = t .before .before .before in
+    let h = start f .pre in
+    walk-tree (h .0 .0) (h .0 .1) (f .fill .ensures) (t .figure-of .ensures) (l .figure-of2 .ensures) (w .of-whole .ensures) _ (h .0 .2) _ (n .nothing .ensures)
+    _ (h .1 .0) (h .1 .1) (c .walk .ensures)
 
 pub walked-spec : {M : Type 1} → statement M
 walked-spec =

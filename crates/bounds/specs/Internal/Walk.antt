@@ -53,9 +53,11 @@ carried-in l a = carried-of (net-in l) (a .path) (a .tip) (a .entered)
 abbrev pub kept-of : Totals → List ℕ → Kept
 kept-of t rows = record { totals = totals-of t; rows = totals-in rows }
 
--- each state's totals are in range, as the report's are
-pub record RowsCounted (n : ℕ) (rows : List ℕ) : Type 0 where
-  pub each : (s : ℕ) → RowGathered n (totals-in rows s)
+-- all of it is in range: the totals are, and each state's as they are
+pub record KeptCounted (t : Totals) (rows : List ℕ) : Type 0 where
+  pub totals : Counted t
+  pub each-row : (s : ℕ) → RowGathered (t .steps) (totals-in rows s)
+  pub size : length rows ≡ 5006
 
 -- A walk may begin: the index and the table are filled, the task is the model's, and the tip, the entry counts and the path agree.
 pub record Ready (l : Lent) (a : Asked) : Type 0 where
@@ -67,8 +69,7 @@ pub record Ready (l : Lent) (a : Asked) : Type 0 where
   pub state-high : a .tip .state ≤ (model-in l) .states
   pub depth : a .left + a .tip .len ≡ (limits-in l) .step-limit
   pub more : 0 < a .left
-  pub counted : Counted (a .totals)
-  pub rows-counted : RowsCounted (a .totals .steps) (a .rows)
+  pub counted : KeptCounted (a .totals) (a .rows)
   pub within : a .totals .steps ≤ a .task .budget
 
 -- What a walk over some visits hands back, from what is kept, w, on: where the budget has room for all of them, their totals; else totals whose steps
@@ -91,8 +92,7 @@ visits-beyond l a = visits (net-in l) (limits-in l) (a .left) (path-of (net-in l
 -- what `walk` hands back, and the table of rows after it
 pub record WalkedBeyond (l : Lent) (a : Asked) (r : Totals) (rows : List ℕ) : Type 0 where
   pub ends : Ends l a r rows
-  pub counted : Counted r
-  pub rows-counted : RowsCounted (r .steps) rows
+  pub counted : KeptCounted r rows
   pub names-kept : NamesKept (a .rows) rows
   -- the steps are the count of paths in the cut tree's definition, where the budget was not passed
   pub steps-are : r .steps ≤ a .task .budget → r .steps ≡ a .totals .steps + length (visits-beyond l a)
@@ -100,8 +100,7 @@ pub record WalkedBeyond (l : Lent) (a : Asked) (r : Totals) (rows : List ℕ) : 
 -- what the walk from the start hands back, of the table of rows before and after
 pub record WalkedTree (ws : List ℕ) (budget : ℕ) (r : Totals) (before after : List ℕ) : Type 0 where
   pub ends : EndsOver (net-of ws) budget nothing-kept (tree (net-of ws) ((described ws) .limits)) r after
-  pub counted : Counted r
-  pub rows-counted : RowsCounted (r .steps) after
+  pub counted : KeptCounted r after
   pub names-kept : NamesKept before after
   -- likewise, of the whole tree
   pub steps-are : r .steps ≤ budget → r .steps ≡ length (tree (net-of ws) ((described ws) .limits))

@@ -14,8 +14,9 @@ use Rattle.path.specs.Internal.Lent.{Lent, lent}
 use Rattle.path.specs.Internal.Outcomes.{outcome-of}
 use Rattle.bounds.specs.Internal.Walk.{Asked, asked}
 use Rattle.path.proofs.DeathStems.{last-lower}
-use Rattle.bounds.proofs.WalkLoop.{Held, held, AtExit, exit-same, state-small, room, ones-few, exit-ready, loop-start, steps-few, loop-end, loop-over, ends-steps}
-use Rattle.bounds.proofs.WalkTurns.{Turn, Visited, judged-there, there-small, judge-figures, last-step, note-figures, death-noted, step-noted, cut-noted}
+use Rattle.rows.proofs.RowTotals.{names-then}
+use Rattle.bounds.proofs.WalkLoop.{Held, held, AtExit, exit-same, step-counted, one-step, state-small, room, ones-few, exit-ready, loop-start, steps-few, loop-end, loop-over, ends-steps}
+use Rattle.bounds.proofs.WalkTurns.{Turn, Visited, judged-there, there-small, judge-figures, last-step, note-figures, row-figures, death-noted, step-noted, cut-noted}
 use Rattle.bounds.proofs.WalkTurns.{visit-ended, before-fits, ready-there, visit-over, visit-back}
 use borrow.Fn.Kinds.{In}
 use borrow.Fn.PlainCycle.{Measures, is, falls, and}
@@ -31,19 +32,20 @@ use Rattle.path.proofs.outcome.judge.Reads as judge-reads
 use Rattle.path.proofs.totals.with_cut.Reads as with-cut-reads
 use Rattle.path.proofs.totals.with_death.Reads as with-death-reads
 use Rattle.path.proofs.totals.with_step.Reads as with-step-reads
+use Rattle.rows.proofs.table.note.Reads as note-reads
 use Rattle.figure.proofs.Figure.of_whole.Reads as of-whole-reads
 use Rattle.model.proofs.index.exit_count.Reads as exit-count-reads
 use Rattle.bounds.proofs.walk.+walk.{statement}
 use Rattle.bounds.proofs.walk.+walk.Tie.{close}
 
-abbrev μ-walk : Measures 3 walk-kinds.ps ℕ
+abbrev μ-walk : Measures 4 walk-kinds.ps ℕ
 μ-walk κs a = a .1 .1 .1 .1 .1 .0
 
-abbrev walk-at : ℕ → In 3 walk-kinds.ps
-walk-at t = and 3 walk-kinds.ps (is 3 walk-kinds.ps μ-walk t) walk.Pre
+abbrev walk-at : ℕ → In 4 walk-kinds.ps
+walk-at t = and 4 walk-kinds.ps (is 4 walk-kinds.ps μ-walk t) walk.Pre
 
-abbrev walk-below : ℕ → In 3 walk-kinds.ps
-walk-below t = and 3 walk-kinds.ps (falls 3 walk-kinds.ps _<_ μ-walk t) walk.Pre
+abbrev walk-below : ℕ → In 4 walk-kinds.ps
+walk-below t = and 4 walk-kinds.ps (falls 4 walk-kinds.ps _<_ μ-walk t) walk.Pre
 
 abbrev claims : ℕ → walk-lts.Claims
 claims t = (
@@ -65,6 +67,8 @@ claims t = (
   death-reads.Learnt,
   with-death-reads.Asked,
   with-death-reads.Learnt,
+  note-reads.Asked,
+  note-reads.Learnt,
   is-continued-reads.Asked,
   is-continued-reads.Learnt,
   walk-below t,
@@ -74,11 +78,11 @@ claims t = (
 )
 
 abbrev walk-Inv-loop : walk-lts.InvT-loop
-walk-Inv-loop words index table task tip left path nth entered₀ taken₀ sums₀ cache₀ time level len count i₀ entered taken sums cache i =
-    (i ≤ count) × AtExit (lent words index table) (asked task tip left entered₀ taken₀ sums₀) (held i entered taken sums cache)
+walk-Inv-loop words index table task tip left path rows₀ nth entered₀ taken₀ sums₀ cache₀ time level len count i₀ rows entered taken sums cache i =
+    (i ≤ count) × AtExit (lent words index table) (asked task tip left entered₀ taken₀ sums₀ rows₀) (held i entered taken sums cache rows)
 
 abbrev walk-μ-loop : walk-lts.MeasureT-loop
-walk-μ-loop words index table task tip left path nth entered₀ taken₀ sums₀ cache₀ time level len count i₀ entered taken sums cache i =
+walk-μ-loop words index table task tip left path rows₀ nth entered₀ taken₀ sums₀ cache₀ time level len count i₀ rows entered taken sums cache i =
     count - i
 
 -- ---- the places of a turn: where the exit was read, and where the visit was noted
@@ -113,10 +117,10 @@ abbrev lent-at : (t : ℕ) (c : Start t) → Lent
 lent-at t c = lent (c .args .words .now) (c .args .index .now) (c .args .table .now)
 
 abbrev asked-at : (t : ℕ) (c : Start t) → Asked
-asked-at t c = asked (c .args .task) (c .args .tip) (c .args .left) (c .args .entries) (c .args .path) (c .args .totals)
+asked-at t c = asked (c .args .task) (c .args .tip) (c .args .left) (c .args .entries) (c .args .path) (c .args .totals) (c .args .rows .now)
 
 abbrev held-at : (t : ℕ) (c : AtLoop t) → Held
-held-at t c = held (c .loop .i) (c .loop .entered) (c .loop .taken) (c .loop .sums) (c .loop .cache)
+held-at t c = held (c .loop .i) (c .loop .entered) (c .loop .taken) (c .loop .sums) (c .loop .cache) (c .loop .rows)
 
 more-at : (t : ℕ) (c : InLoop t)
     → c .before .loop .i < exit-count ((loop-begin t (c .before)) .args .index .now) ((loop-begin t (c .before)) .args .tip .state)
@@ -151,7 +155,7 @@ VisitedAt t c =
     let e = read-exit t (tested t c) in
     let k = exit-loop t e in
     Visited (lent-at t (loop-begin t k)) (asked-at t (loop-begin t k)) (held-at t k) (e .exit-at .result)
-    ((tested t c) .before .judge .result) (c .with-step2 .result) (k .loop .cache)
+    ((tested t c) .before .judge .result) (c .with-step2 .result) (k .loop .cache) (k .loop .rows)
 
 on : (t : ℕ) (c : StepNoted t) → is-continued (outcome-of ((tested t c) .before .judge .result)) ≡ true
 on t c = sym (c .before .before .is-continued .ensures) ∙ c .before .if3 .taken
@@ -188,7 +192,7 @@ walk-loop-holds t c =
 walk-with-step-requires : (t : ℕ) → walk-lts.Need-with-step-requires (claims t) (walk-at t) walk.Post walk-Inv-loop walk-μ-loop
 walk-with-step-requires t c κs =
     let k = c .before .before .before .before in
-    (k .loop .inv .1 .counted, steps-few ((loop-begin t k) .pre .1) (k .loop .inv .1))
+    (k .loop .inv .1 .counted .totals, steps-few ((loop-begin t k) .pre .1) (k .loop .inv .1))
 
 walk-returns : (t : ℕ) → walk-lts.Need-returns (claims t) (walk-at t) walk.Post walk-Inv-loop walk-μ-loop
 walk-returns t c =
@@ -196,7 +200,12 @@ walk-returns t c =
     let k = i .before .before .before .before in
     let r = (loop-begin t k) .pre .1 in
     let ends = loop-over r (k .loop .inv .1) (more-at t (i .before .before .before)) (i .if1 .taken) (c .with-step .ensures .0) in
-    record { ends = ends; counted = c .with-step .ensures .1; steps-are = ends-steps r ends }
+    record {
+      ends = ends;
+      counted = step-counted (c .with-step .ensures .1) (one-step (k .loop .sums) (c .with-step .ensures .0)) (k .loop .inv .1 .counted);
+      names-kept = k .loop .inv .1 .names-kept;
+      steps-are = ends-steps r (k .loop .rows) ends;
+    }
 
 walk-exit-at-requires : (t : ℕ) → walk-lts.Need-exit-at-requires (claims t) (walk-at t) walk.Post walk-Inv-loop walk-μ-loop
 walk-exit-at-requires t c κs =
@@ -233,13 +242,20 @@ walk-with-death-requires t c κs =
     let h = note-figures w in
     (h .0, h .1, last-lower (last-step w) (d .death .ensures .0), h .2)
 
+walk-note-requires : (t : ℕ) → walk-lts.Need-note-requires (claims t) (walk-at t) walk.Post walk-Inv-loop walk-μ-loop
+walk-note-requires t c κs =
+    let d = c .before .before .before .before in
+    let w = turn t (read-exit t (d .before .before)) in
+    let h = row-figures w in
+    (h .0, h .1, h .2, last-lower (last-step w) (d .death .ensures .0), (note-figures w) .2)
+
 walk-is-continued-requires : (t : ℕ) → walk-lts.Need-is-continued-requires (claims t) (walk-at t) walk.Post walk-Inv-loop walk-μ-loop
 walk-is-continued-requires t c κs = tt
 
 walk-with-step-requires-2 : (t : ℕ) → walk-lts.Need-with-step-requires-2 (claims t) (walk-at t) walk.Post walk-Inv-loop walk-μ-loop
 walk-with-step-requires-2 t c κs =
     let w = turn t (read-exit t (c .before .before .before)) in
-    (w .kept .counted, steps-few (w .ready) (w .kept))
+    (w .kept .counted .totals, steps-few (w .ready) (w .kept))
 
 walk-add-entered : (t : ℕ) → walk-lts.Need-add-entered (claims t) (walk-at t) walk.Post walk-Inv-loop walk-μ-loop
 walk-add-entered t c = omega (arith, before-fits (visited t c) (on t c))
@@ -258,19 +274,26 @@ walk-sub-walk t c = (visited t c) .turn .ready .more
 
 walk-walk-requires : (t : ℕ) → walk-lts.Need-walk-requires (claims t) (walk-at t) walk.Post walk-Inv-loop walk-μ-loop
 walk-walk-requires t c κs =
-    let v = visited t c in
-    let s = loop-begin t (exit-loop t (read-exit t (tested t c))) in
-    (omega (arith, s .pre .0, v .turn .ready .more), ready-there v (on t c))
+    let n = c .before in
+    let v = visited t n in
+    let s = loop-begin t (exit-loop t (read-exit t (tested t n))) in
+    (omega (arith, s .pre .0, v .turn .ready .more), ready-there v (on t n))
 
 walk-array-write-entered-2 : (t : ℕ) → walk-lts.Need-array-write-entered-2 (claims t) (walk-at t) walk.Post walk-Inv-loop walk-μ-loop
-walk-array-write-entered-2 t c = let h = there-small ((visited t (c .before)) .turn) in omega arith
+walk-array-write-entered-2 t c = let h = there-small ((visited t (c .before .before)) .turn) in omega arith
 
 walk-returns-2 : (t : ℕ) → walk-lts.Need-returns-2 (claims t) (walk-at t) walk.Post walk-Inv-loop walk-μ-loop
 walk-returns-2 t c =
     let w = c .before .before .before in
-    let v = visited t (w .before) in
-    let ends = visit-over v (on t (w .before)) (w .walk .ensures .ends) (c .if4 .taken) in
-    record { ends = ends; counted = w .walk .ensures .counted; steps-are = ends-steps (v .turn .ready) ends }
+    let n = w .before .before in
+    let v = visited t n in
+    let ends = visit-over v (on t n) _ (w .walk .ensures .ends) (c .if4 .taken) in
+    record {
+      ends = ends;
+      counted = w .walk .ensures .counted;
+      names-kept = names-then (v .turn .kept .names-kept) (w .walk .ensures .names-kept);
+      steps-are = ends-steps (v .turn .ready) _ ends;
+    }
 
 walk-with-cut-requires : (t : ℕ) → walk-lts.Need-with-cut-requires (claims t) (walk-at t) walk.Post walk-Inv-loop walk-μ-loop
 walk-with-cut-requires t c κs = note-figures (turn t (read-exit t (c .before .before .before)))
@@ -293,17 +316,19 @@ walk-loop-again t c =
       omega (arith, e .before .before .before .before .loop-test .taken),
       ⊎-elim
           (λ d. let died = dead ∙ d .0 .taken in
-          exit-same (d .5) (d .6) (d .7) (d .8)
-          (visit-ended (death-noted w o is (d .4 .ensures .1) died (d .1 .ensures .0) (d .4 .ensures .0) (d .1 .ensures .1))
+          exit-same (d .8) (d .9) (d .10) (d .11) (d .7)
+          (visit-ended (death-noted w o is (d .4 .ensures .1) died (last-lower (last-step w) (d .1 .ensures .0)) (d .1 .ensures .0) (d .4 .ensures .0)
+          (d .6 .ensures .0) (d .6 .ensures .1) (d .1 .ensures .1))
           (ap is-continued (is-death-true (outcome-of o) died))))
           (⊎-elim
           (λ d. let g : StepNoted t = record {
             before = record { before = record { before = record { before = c .before; if2 = d .0 }; is-continued = d .1 }; if3 = d .2 };
             with-step2 = d .3;
           } in
-          exit-same (d .8) (d .9) (d .10) (d .11) (visit-back (visited t g) (on t g) (d .4 .ensures .ends) (d .4 .ensures .counted) (d .7 .left)))
+          exit-same (d .10) (d .11) (d .12) (d .13) (d .9)
+          (visit-back (visited t g) (on t g) _ (d .5 .ensures .ends) (d .5 .ensures .counted) (d .5 .ensures .names-kept) (d .8 .left)))
           (λ d. let ended = sym (d .1 .ensures) ∙ d .2 .left in
-          exit-same (d .4) (d .5) (d .6) (d .7) (visit-ended (cut-noted w o is (d .3 .ensures .1) (dead ∙ d .0 .left) ended (d .3 .ensures .0)) ended)))
+          exit-same (d .5) (d .6) (d .7) (d .8) (d .4) (visit-ended (cut-noted w o is (d .3 .ensures .1) (dead ∙ d .0 .left) ended (d .3 .ensures .0)) ended)))
           (c .if2 .came),
     )
 
@@ -312,7 +337,12 @@ walk-returns-3 t c =
     let k = c .before in
     let r = (loop-begin t k) .pre .1 in
     let ends = loop-end r (k .loop .inv .1) (omega (arith, k .before .exit-count .ensures .0, c .loop-test .left)) in
-    record { ends = ends; counted = k .loop .inv .1 .counted; steps-are = ends-steps r ends }
+    record {
+      ends = ends;
+      counted = k .loop .inv .1 .counted;
+      names-kept = k .loop .inv .1 .names-kept;
+      steps-are = ends-steps r (k .loop .rows) ends;
+    }
 
 pub +walk-spec : {M : Type 1} → statement M
 +walk-spec = close μ-walk λ t. walk-lts.spec (claims t)
@@ -335,6 +365,7 @@ pub +walk-spec : {M : Type 1} → statement M
     (walk-is-death-requires t)
     (walk-death-requires t)
     (walk-with-death-requires t)
+    (walk-note-requires t)
     (walk-is-continued-requires t)
     (walk-with-step-requires-2 t)
     (walk-add-entered t)
