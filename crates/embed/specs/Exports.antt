@@ -11,7 +11,12 @@ use Rattle.figure.specs.declared.Figure.{Figure}
 use Rattle.figure.specs.Rounding.{IsFigure}
 use Rattle.figure.specs.Operations.{at-or-below}
 use Rattle.tree.specs.Report.{Values, values, answer}
+use Rattle.tree.specs.declared.Row.{Row}
+use Rattle.tree.specs.Rows.{answer-with-rows, rows-after}
 use Rattle.accuracy.specs.Rule.{AccuracyRule}
+use Rattle.accuracy.specs.RowRule.{RowRule}
+use Rattle.bounds.specs.declared.Answer.{Answer}
+use Rattle.bounds.specs.Answers.{answer-of}
 use Rattle.text.specs.Text.{answer-text}
 
 -- the place, the digits of the lower, the upper and the cut figure, and the counts of deaths, cuts and steps
@@ -26,6 +31,12 @@ powers-of v =
     let r = v .report in
     r .lower .power ∷ r .upper .power ∷ r .cut .power ∷ []
 
+-- an answer was put into the lent arrays, and its number, 0 for a report, handed back
+pub record AnswerPut (a : Answer) (number : ℕ) (numbers : List ℕ) (powers : List ℤ) : Type 0 where
+  pub number-is : number ≡ values (answer-of a) .number
+  pub numbers-are : numbers ≡ numbers-of (values (answer-of a))
+  pub powers-are : powers ≡ powers-of (values (answer-of a))
+
 -- What `bounds_assess` promises, of the words before and after, the budget, the number that it returns, and what the lent arrays hold after.
 pub record Assessed (before after : List ℕ) (budget : ℕ) (number : ℕ) (numbers : List ℕ) (powers : List ℤ) : Type 0 where
   pub number-is : number ≡ values (answer before budget) .number
@@ -33,6 +44,18 @@ pub record Assessed (before after : List ℕ) (budget : ℕ) (number : ℕ) (num
   pub powers-are : powers ≡ powers-of (values (answer before budget))
   -- the accuracy rule holds of that answer
   pub accuracy : AccuracyRule before budget (answer before budget)
+  pub words-unchanged : after ≡ before
+
+-- What `bounds_assess_rows` promises, beside that of the rows before and after.
+pub record AssessedRows (before after : List ℕ) (budget : ℕ) (given left : List Row) (number : ℕ) (numbers : List ℕ) (powers : List ℤ) : Type 0 where
+  pub number-is : number ≡ values (answer-with-rows before budget (length given)) .number
+  pub numbers-are : numbers ≡ numbers-of (values (answer-with-rows before budget (length given)))
+  pub powers-are : powers ≡ powers-of (values (answer-with-rows before budget (length given)))
+  -- the caller's table after the call is the definition's
+  pub rows-are : left ≡ rows-after before budget given
+  -- the accuracy rule holds of that answer and of each row filled
+  pub accuracy : AccuracyRule before budget (answer-with-rows before budget (length given))
+  pub rows-accurate : RowRule before budget (answer-with-rows before budget (length given)) given left
   pub words-unchanged : after ≡ before
 
 -- What `bounds_text` promises: of the bytes that the lent buffer then holds, the first n are the answer's text. What the others are is free.
@@ -80,4 +103,4 @@ version-number major minor patch = major * 1000000 + minor * 1000 + patch
 
 -- this version
 abbrev pub version : ℕ
-version = version-number 1 1 0
+version = version-number 1 2 0

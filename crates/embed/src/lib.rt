@@ -6,14 +6,16 @@ ghost use Rattle.word.specs.Answer.{granted};
 ghost use Rattle.tree.specs.Report as definition;
 ghost use Rattle.bounds.specs.Answers.{report-of};
 ghost use Rattle.text.specs.Bytes.{most-bytes, Spelled};
-ghost use Rattle.embed.specs.Exports.{Assessed, Texted, Compared, numbers-of, powers-of, figure-test, version};
+ghost use Rattle.embed.specs.Exports.{AnswerPut, Assessed, AssessedRows, Texted, Compared, numbers-of, powers-of, figure-test, version};
 ghost use Rattle.figure.specs.Rounding.{figure};
 use bounds::Answer;
 use bounds::Report;
 use bounds::unreliability;
+use bounds::unreliability_by_state;
 use figure::Figure;
 use text::answers::words_text;
 use text::bytes::words_of;
+use tree::Row;
 
 fn put_powers(lower: i32, upper: i32, cut: i32, powers: &mut [i32; 3])
     ensures { λ _. ⌜ now (powers .exit) ≡ (lower ∷ upper ∷ cut ∷ []) ⌝ }
@@ -41,6 +43,23 @@ fn put_report(r: Report, values: &mut [u64; 7], powers: &mut [i32; 3])
     put_powers(lower.power, upper.power, cut.power, powers);
 }
 
+// The number of an answer, 0 for a report, and its numbers.
+fn put_answer(a: Answer, values: &mut [u64; 7], powers: &mut [i32; 3]) -> u64
+    ensures { λ r. ⌜ AnswerPut a r (now (values .exit)) (now (powers .exit)) ⌝ }
+{
+    match a {
+        Answer::Refused(f) => {
+            *values = [f.place() as u64, 0, 0, 0, 0, 0, 0];
+            *powers = [0, 0, 0];
+            f.number()
+        }
+        Answer::Report(r) => {
+            put_report(r, values, powers);
+            0
+        }
+    }
+}
+
 // The answer to the words and the budget: 0 for a report, or the refusal's number. Fills `values` with a refusal's place, the digits of the lower,
 // the upper and the cut figure and the counts of deaths, cuts and steps, and `powers` with the figures' powers of ten; all but the place are zero
 // in a refusal.
@@ -53,18 +72,23 @@ pub extern "C" fn bounds_assess(
 ) -> u64
     ensures { λ r. ⌜ Assessed (now (words .entry)) (now (words .exit)) budget r (now (values .exit)) (now (powers .exit)) ⌝ }
 {
-    let a = unreliability(words, budget);
-    match a {
-        Answer::Refused(f) => {
-            *values = [f.place() as u64, 0, 0, 0, 0, 0, 0];
-            *powers = [0, 0, 0];
-            f.number()
-        }
-        Answer::Report(r) => {
-            put_report(r, values, powers);
-            0
-        }
-    }
+    put_answer(unreliability(words, budget), values, powers)
+}
+
+// The same, and the caller's first rows filled: in order of state number, one for each state without exits that is the target of a transition. Rows
+// beyond them are unchanged, and so are all on a refusal but 13, on which those filled hold zeros beside their state numbers.
+#[no_mangle]
+pub extern "C" fn bounds_assess_rows(
+    words: &[u32],
+    budget: u64,
+    rows: &mut [Row],
+    values: &mut [u64; 7],
+    powers: &mut [i32; 3],
+) -> u64
+    ensures { λ r. ⌜ AssessedRows (now (words .entry)) (now (words .exit)) budget (now (rows .entry)) (now (rows .exit)) r (now (values .exit)) (now (powers .exit)) ⌝ }
+{
+    let a = unreliability_by_state(words, budget, rows);
+    put_answer(a, values, powers)
 }
 
 // The answer to the words and the budget as the report program prints it: the first bytes of `text`, as many as the number that is handed back.
@@ -133,5 +157,5 @@ pub extern "C" fn bounds_at_or_below(
 pub extern "C" fn bounds_version() -> u64
     ensures { λ r. ⌜ r ≡ version ⌝ }
 {
-    1_001_000
+    1_002_000
 }

@@ -4,6 +4,7 @@ mod Signed
 mod Figures
 mod Lengths
 mod Words
+mod Lending
 mod Numerals
 mod Example
 mod Faithful

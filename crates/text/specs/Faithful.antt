@@ -10,7 +10,8 @@ use Rattle.figure.specs.declared.Figure.{Figure}
 use Rattle.figure.specs.Rounding.{IsFigure}
 use Rattle.tree.specs.Report.{answer}
 use Rattle.text.specs.Bytes.{words-of, most-bytes}
-use Rattle.text.specs.Text.{decimal, signed-decimal, figure-text}
+use Rattle.text.specs.Text.{decimal, signed-decimal, figure-text, answer-text}
+use Rattle.text.specs.Program.{report-budget, printed}
 use Rattle.text.specs.Example.{AsDocumented}
 
 -- one digit more on the right
@@ -42,9 +43,15 @@ FigureDigits = (f : Figure) → IsFigure 9 f → (f .digits ≡ 0 → ⊥) → N
 abbrev pub AnswerEnough : Type 0
 AnswerEnough = (bytes : List ℕ) (budget : ℕ) → answer (words-of bytes) budget ≡ answer (words-of (take most-bytes bytes)) budget
 
+-- the program prints the text of the answer to a caller who lends no row
+abbrev pub PrintsNoRow : Type 0
+PrintsNoRow = (bytes : List ℕ) → printed bytes ≡ answer-text (answer (words-of bytes) report-budget)
+
 -- What the report program's text promises beside the equation with its definition.
 pub record FaithfulText : Type 0 where
   pub decimal-worth : DecimalWorth
   pub figure-digits : FigureDigits
   pub as-documented : AsDocumented
   pub answer-enough : AnswerEnough
+  -- "The report program lends 1,000 rows and prints none."
+  pub prints-no-row : PrintsNoRow

@@ -1,13 +1,18 @@
 // The report program but for its reading and writing: a buffer for the bytes of standard input, and the text to write.
 use crate::Text;
-use crate::answers::answered;
+use crate::answers::answer_text;
+use crate::bytes::words_of;
+use bounds::Answer;
+use bounds::unreliability_by_state;
+use figure::Figure;
+use tree::Row;
 ghost use mathlib.Core.Path.{_≡_};
 ghost use lib.ListN.{length};
-ghost use Rattle.tree.specs.Report.{answer};
+ghost use Rattle.tree.specs.Rows.{answer-with-rows};
 ghost use Rattle.accuracy.specs.Rule.{AccuracyRule};
 ghost use Rattle.text.specs.Bytes.{words-of, most-bytes};
 ghost use Rattle.text.specs.Written.{Holds};
-ghost use Rattle.text.specs.Program.{report-budget, printed};
+ghost use Rattle.text.specs.Program.{report-budget, report-rows, printed, LendsRows};
 ghost use Rattle.text.specs.Faithful.{FaithfulText};
 
 // A buffer for standard input; what it holds is free. A read that fills it can stop: `AnswerEnough` of `FaithfulText`.
@@ -17,12 +22,36 @@ pub fn input() -> [u8; 64024]
     [0; 64024]
 }
 
+// As many rows as a model can need.
+fn no_rows() -> [Row; 1000] {
+    let none = Figure {
+        digits: 0,
+        power: 0,
+    };
+    let row = Row {
+        state: 0,
+        lower: none,
+        upper: none,
+    };
+    [row; 1000]
+}
+
+// The answer to these words for a caller who lends 1,000 rows and looks at none of them afterwards.
+fn lending_rows(words: &[u32], budget: u64) -> Answer
+    ensures { λ r. ⌜ LendsRows (now (words .entry)) (now (words .exit)) budget r ⌝ }
+{
+    let mut rows = no_rows();
+    unreliability_by_state(words, budget, &mut rows)
+}
+
 // The text that the report program prints for these bytes. The lent bytes are unchanged.
 pub fn report(bytes: &[u8]) -> Text
     ensures { λ r. ⌜ Holds (printed (now (bytes .entry))) r ⌝ }
-    ensures { λ _. ⌜ AccuracyRule (words-of (now (bytes .entry))) report-budget (answer (words-of (now (bytes .entry))) report-budget) ⌝ }
+    ensures { λ _. ⌜ AccuracyRule (words-of (now (bytes .entry))) report-budget (answer-with-rows (words-of (now (bytes .entry))) report-budget report-rows) ⌝ }
     ensures { λ _. ⌜ FaithfulText ⌝ }
     ensures { λ _. ⌜ now (bytes .exit) ≡ now (bytes .entry) ⌝ }
 {
-    answered(bytes, 1_000_000)
+    let mut words = [0; 16006];
+    let n = words_of(bytes, &mut words);
+    answer_text(lending_rows(&words[..n], 1_000_000))
 }
