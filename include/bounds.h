@@ -2,22 +2,23 @@
  * Bounds on the probability that a system fails, from a model's words: the proved library for C and C++.
  *
  * `tools/archive` makes the archive, target/lib/libbounds.a; `tools/install PREFIX` puts it, this header and a file for pkg-config in place. The
- * functions under "Exported" are proved: each promises its result as an equation with the definitions of document 01, for all words and all
- * budgets. The inline functions of this header are not proved; tests/c tries them.
+ * functions under "Exported" are proved: each promises its result as an equation with the definitions of documents 01 and 02, for all words, all
+ * budgets and any rows. The inline functions of this header are not proved; tests/c tries them.
  *
  * Which version. The archive must be of the header's own version, since another may write more numbers into a caller's buffers. Nothing but a
- * comparison at run time can tell: call bounds_version_agrees first, and nothing else where it says 0. bounds_ask looks by itself.
+ * comparison at run time can tell: call bounds_version_agrees first, and nothing else where it says 0. bounds_ask and bounds_ask_rows look by
+ * themselves.
  *
  * Who owns what. Every buffer is the caller's. The library keeps no pointer after a call, asks for no memory, makes no system call and uses no
  * floating point. Words and bytes that are lent by a pointer to const are only read. A pointer is never null, also where the count beside it
- * is 0, and is aligned for its type; a buffer that is written overlaps no other. Nothing else is asked of a caller: any words, any count that
+ * is 0, and is aligned for its type; a buffer that is written overlaps no other. Nothing else is asked of a caller: any words, any counts that
  * the memory holds and any budget have an answer.
  *
  * Re-entrancy. There is no global and no thread-local state. Any number of threads may call at once, each with its own buffers, and may lend
  * the same words.
  *
- * Stack. A call needs at most BOUNDS_STACK bytes of stack: a quarter of a megabyte. That is measured, not proved: the tests run every call in a
- * thread that has so much and what the thread itself needs (PTHREAD_STACK_MIN), and see what it used (tests/c/stack.c).
+ * Stack. A call needs at most BOUNDS_STACK bytes of stack, 320 kilobytes; lent rows are not counted. That is measured, not proved: the tests run
+ * every call in a thread that has so much and what the thread itself needs (PTHREAD_STACK_MIN), and see what it used (tests/c/stack.c).
  *
  * Time. It grows with the words and with the steps, of which the budget allows so many; measured (docs/BENCHMARK.md), not proved.
  */
@@ -35,7 +36,7 @@ extern "C" {
 
 /* ---- The version: major * 1,000,000 + minor * 1,000 + patch. CHANGELOG.md says what each brought. */
 
-#define BOUNDS_VERSION 1001000
+#define BOUNDS_VERSION 1002000
 #define BOUNDS_MAJOR(version) ((int)((version) / 1000000))
 #define BOUNDS_MINOR(version) ((int)((version) / 1000 % 1000))
 #define BOUNDS_PATCH(version) ((int)((version) % 1000))
@@ -44,17 +45,19 @@ extern "C" {
 
 #define BOUNDS_MOST_WORDS 16005      /* a model has at most so many words */
 #define BOUNDS_MOST_BUDGET 1000000   /* a budget is from 1 to this */
+#define BOUNDS_MOST_ROWS 1000        /* so many rows are enough for every model */
 #define BOUNDS_WORDS_SIZE 16006      /* the words that bounds_words writes */
 #define BOUNDS_TEXT_SIZE 256         /* the bytes that bounds_text writes */
-#define BOUNDS_STACK 262144          /* the stack that a call needs at most, in bytes */
+#define BOUNDS_STACK 327680          /* the stack that a call needs at most, in bytes */
 #define BOUNDS_SENTENCE_SIZE 128     /* the bytes that bounds_sentence_at writes at most, the zero byte at the end included */
 
 /*
  * ---- Refusals
  *
  * A refusal has a number and a place. For 3 to 9 the place is that of a word, counted from 0 (where the words ran out, it is their number);
- * for 10 and 11 it is a state; for 1, 2 and 13 it is 0. bounds_sentence has a sentence for each that a tool can show. Only 0 is a report: later
- * versions add numbers, and one that a program does not know is a refusal all the same.
+ * for 10 and 11 it is a state; for 14 it is the number of rows needed; for 1, 2 and 13 it is 0. Only bounds_assess_rows refuses by 14.
+ * bounds_sentence has a sentence for each that a tool can show. Only 0 is a report: later versions add numbers, and one that a program does not
+ * know is a refusal all the same.
  */
 enum bounds_refusal {
     BOUNDS_REPORTED = 0, /* no refusal */
@@ -63,6 +66,7 @@ enum bounds_refusal {
     BOUNDS_TOO_MANY_WORDS = 1,
     BOUNDS_BUDGET_OUT_OF_RANGE = 2,
     BOUNDS_OVER_BUDGET = 13,
+    BOUNDS_TOO_FEW_ROWS = 14,
 
     /* By whoever wrote the words. */
     BOUNDS_WRONG_KIND = 3,
@@ -78,7 +82,7 @@ enum bounds_refusal {
     BOUNDS_START_WITHOUT_EXITS = 11
 };
 
-/* What bounds_ask answers where the archive is not of the header's version; no number of document 01's. */
+/* What bounds_ask and bounds_ask_rows answer where the archive is not of the header's version; no number of the documents'. */
 #define BOUNDS_OTHER_VERSION UINT64_MAX
 
 /*
@@ -88,8 +92,28 @@ enum bounds_refusal {
  * from 100,000,000 to 999,999,999. The upper figure is never below the exact upper sum and the lower figure never above the exact lower sum;
  * how near they are, the accuracy rule of document 01 says.
  */
+typedef struct {
+    uint64_t digits;
+    int32_t power;
+} bounds_figure;
 
-/* What bounds_assess writes: where each number stands in `values` and in `powers`. */
+/*
+ * ---- Rows: one for each way to fail
+ *
+ * A row has the two figures for one state without exits, of the paths that end in that state alone: the accuracy rule holds for it over these.
+ * The paths that were cut are in no row. A model has a row for each state without exits that is the target of a transition, reached or not; where
+ * no path ends in the state, both figures are zero. The rounded figures of the rows need not add up to those of the report.
+ */
+typedef struct {
+    uint64_t state; /* its number, from 1 */
+    bounds_figure lower;
+    bounds_figure upper;
+} bounds_row;
+
+/* The library writes rows of this size; a compiler that lays them out otherwise stops here. */
+typedef char bounds_row_has_40_bytes[sizeof(bounds_row) == 40 ? 1 : -1];
+
+/* What bounds_assess and bounds_assess_rows write: where each number stands in `values` and in `powers`. */
 enum bounds_value {
     BOUNDS_PLACE,        /* a refusal's place; 0 in a report */
     BOUNDS_LOWER_DIGITS, /* the figures and counts of a report; all 0 in a refusal */
@@ -120,9 +144,22 @@ uint64_t bounds_version(void);
 uint64_t bounds_assess(const uint32_t *words, size_t count, uint64_t budget, uint64_t values[BOUNDS_VALUES], int32_t powers[BOUNDS_POWERS]);
 
 /*
- * The same answer as the report program prints it: six lines for a report, one for a refusal, each ended by a newline, in ASCII. Returns their
- * length, at most BOUNDS_TEXT_SIZE; they are the first bytes of `text`, with no zero byte behind them: what the rest of `text` then holds is
- * free. A refusal has its line there.
+ * The same answer, and in `rows` the bounds on each way to fail. The first of the `row_count` rows are filled, in order of state number, one for
+ * each state without exits that is the target of a transition; rows behind these are unchanged. Where there are fewer rows than such states, it
+ * refuses by 14, with the number of rows needed as its place: after every other refusal but 13, which is the walk's. With BOUNDS_MOST_ROWS rows
+ * that never happens. A refusal by 13 fills the rows with their state numbers and zeros; any other changes none. `rows` is not null, also where
+ * `row_count` is 0.
+ *
+ * How many rows were filled is not handed back. A caller who wants to know sets the states of all rows to 0 before: the filled ones have states from
+ * 1 on. bounds_ask_rows does so.
+ */
+uint64_t bounds_assess_rows(const uint32_t *words, size_t count, uint64_t budget, bounds_row *rows, size_t row_count, uint64_t values[BOUNDS_VALUES],
+                            int32_t powers[BOUNDS_POWERS]);
+
+/*
+ * The answer of bounds_assess as the report program prints it: six lines for a report, one for a refusal, each ended by a newline, in ASCII.
+ * Returns their length, at most BOUNDS_TEXT_SIZE; they are the first bytes of `text`, with no zero byte behind them: what the rest of `text` then
+ * holds is free. A refusal has its line there.
  */
 size_t bounds_text(const uint32_t *words, size_t count, uint64_t budget, uint8_t text[BOUNDS_TEXT_SIZE]);
 
@@ -155,11 +192,6 @@ static inline int bounds_version_agrees(void)
 
 /* ---- Inline: an answer as one value */
 
-typedef struct {
-    uint64_t digits;
-    int32_t power;
-} bounds_figure;
-
 /* 1 if the figure is at or below the limit. Else 0, also where one of the two is no figure. */
 static inline int bounds_meets(bounds_figure figure, bounds_figure limit)
 {
@@ -177,13 +209,11 @@ typedef struct {
     uint64_t steps;
 } bounds_answer;
 
-/* Looks at the version first: where it is another, the answer is refusal BOUNDS_OTHER_VERSION with zeros for all the rest. */
-static inline bounds_answer bounds_ask(const uint32_t *words, size_t count, uint64_t budget)
+/* The numbers that the library wrote, by name. */
+static inline bounds_answer bounds_answer_of(uint64_t refusal, const uint64_t values[BOUNDS_VALUES], const int32_t powers[BOUNDS_POWERS])
 {
-    uint64_t values[BOUNDS_VALUES] = { 0 };
-    int32_t powers[BOUNDS_POWERS] = { 0 };
     bounds_answer answer;
-    answer.refusal = bounds_version_agrees() ? bounds_assess(words, count, budget, values, powers) : BOUNDS_OTHER_VERSION;
+    answer.refusal = refusal;
     answer.place = values[BOUNDS_PLACE];
     answer.lower.digits = values[BOUNDS_LOWER_DIGITS];
     answer.lower.power = powers[BOUNDS_LOWER_POWER];
@@ -195,6 +225,35 @@ static inline bounds_answer bounds_ask(const uint32_t *words, size_t count, uint
     answer.cuts = values[BOUNDS_CUTS];
     answer.steps = values[BOUNDS_STEPS];
     return answer;
+}
+
+/* Looks at the version first: where it is another, the answer is refusal BOUNDS_OTHER_VERSION with zeros for all the rest. */
+static inline bounds_answer bounds_ask(const uint32_t *words, size_t count, uint64_t budget)
+{
+    uint64_t values[BOUNDS_VALUES] = { 0 };
+    int32_t powers[BOUNDS_POWERS] = { 0 };
+    uint64_t refusal = bounds_version_agrees() ? bounds_assess(words, count, budget, values, powers) : BOUNDS_OTHER_VERSION;
+    return bounds_answer_of(refusal, values, powers);
+}
+
+/*
+ * The same with rows, and in `*filled` how many of them were filled. Sets all `row_count` rows to zeros first, whatever they held: afterwards the
+ * first `*filled` rows are as bounds_assess_rows fills them, and every row behind them is zeros, its state too. `*filled` is 0 in every refusal but
+ * 13; there, the filled rows have their state numbers and zeros.
+ */
+static inline bounds_answer bounds_ask_rows(const uint32_t *words, size_t count, uint64_t budget, bounds_row *rows, size_t row_count, size_t *filled)
+{
+    uint64_t values[BOUNDS_VALUES] = { 0 };
+    int32_t powers[BOUNDS_POWERS] = { 0 };
+    uint64_t refusal = BOUNDS_OTHER_VERSION;
+    size_t n = 0;
+    memset(rows, 0, row_count * sizeof *rows);
+    if (bounds_version_agrees())
+        refusal = bounds_assess_rows(words, count, budget, rows, row_count, values, powers);
+    while (n < row_count && rows[n].state != 0)
+        n++;
+    *filled = n;
+    return bounds_answer_of(refusal, values, powers);
 }
 
 /* ---- Inline: sentences */
@@ -214,6 +273,8 @@ static inline const char *bounds_sentence(uint64_t refusal)
         return "The budget must be from 1 to 1,000,000 steps.";
     case BOUNDS_OVER_BUDGET:
         return "The model has more steps than the budget allows.";
+    case BOUNDS_TOO_FEW_ROWS:
+        return "Fewer rows were lent than the PLACE that the model needs.";
     case BOUNDS_WRONG_KIND:
         return "Word PLACE is missing, or is not of the kind that belongs there.";
     case BOUNDS_BIT_SET:

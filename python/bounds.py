@@ -7,6 +7,9 @@
     9.99500000E-4 1.00000000E-3
     >>> library.at_or_below(report.upper, bounds.Figure.parse("1E-3"))
     True
+    >>> report, rows = library.assess_rows([0x11002001, 0x2000000A, 0x30000000, 0x41801000, 0x50001002, 0x60400001, 0xF0000000])
+    >>> [(row.state, str(row.upper)) for row in rows]
+    [(2, '1.00000000E-3')]
 
 The library is loaded from libbounds.so, which `tools/archive` makes: from the folder that BOUNDS_LIBRARY names, else from the repository's
 target/lib. What it answers is proved; this module is not, and its tests compare it with the proved text. It fails closed: only 0 from the library is
@@ -22,10 +25,12 @@ from array import array
 from dataclasses import dataclass
 from fractions import Fraction
 from pathlib import Path
+from typing import NamedTuple
 
-VERSION = 1001000  # major * 1,000,000 + minor * 1,000 + patch, as BOUNDS_VERSION in include/bounds.h
+VERSION = 1002000  # major * 1,000,000 + minor * 1,000 + patch, as BOUNDS_VERSION in include/bounds.h
 MOST_WORDS = 16005
 MOST_BUDGET = 1000000
+MOST_ROWS = 1000
 WORDS_SIZE = 16006
 TEXT_SIZE = 256
 
@@ -43,6 +48,7 @@ SENTENCES = {
     10: "The probabilities of the fast exits of state PLACE do not add up to exactly 1.",
     11: "The start state PLACE has no exits.",
     13: "The model has more steps than the budget allows.",
+    14: "Fewer rows were lent than the PLACE that the model needs.",
 }
 
 
@@ -51,7 +57,7 @@ class Error(Exception):
 
 
 class Refused(Error):
-    """The library turned the model away. A place is that of a word, counted from 0, or a state (10, 11)."""
+    """The library turned the model away. A place is that of a word, counted from 0, or a state (10, 11), or the number of rows needed (14)."""
 
     def __init__(self, number, place):
         self.number, self.place = number, place
@@ -159,6 +165,24 @@ class Report:
         return "".join(f"{name} {value}\n" for name, value in vars(self).items())
 
 
+class Row(NamedTuple):
+    """The bounds on one way to fail: on the paths that end in one state without exits."""
+
+    state: int
+    lower: Figure
+    upper: Figure
+
+
+class _LentFigure(ctypes.Structure):
+    _fields_ = [("digits", ctypes.c_uint64), ("power", ctypes.c_int32)]
+
+
+class _LentRow(ctypes.Structure):
+    """bounds_row of the header. Its state is 0 before a call, so that a row that was filled is told from one that was not."""
+
+    _fields_ = [("state", ctypes.c_uint64), ("lower", _LentFigure), ("upper", _LentFigure)]
+
+
 class Library:
     """The shared library. It keeps no state: any number of threads may call at once."""
 
@@ -166,6 +190,10 @@ class Library:
     _CALLS = {
         "bounds_version": (ctypes.c_uint64, []),
         "bounds_assess": (ctypes.c_uint64, [ctypes.c_void_p, ctypes.c_size_t, ctypes.c_uint64, ctypes.c_void_p, ctypes.c_void_p]),
+        "bounds_assess_rows": (
+            ctypes.c_uint64,
+            [ctypes.c_void_p, ctypes.c_size_t, ctypes.c_uint64, ctypes.c_void_p, ctypes.c_size_t, ctypes.c_void_p, ctypes.c_void_p],
+        ),
         "bounds_text": (ctypes.c_size_t, [ctypes.c_void_p, ctypes.c_size_t, ctypes.c_uint64, ctypes.c_void_p]),
         "bounds_words": (ctypes.c_size_t, [ctypes.c_void_p, ctypes.c_size_t, ctypes.c_void_p]),
         "bounds_at_or_below": (ctypes.c_uint64, [ctypes.c_uint64, ctypes.c_int32, ctypes.c_uint64, ctypes.c_int32]),
@@ -194,13 +222,18 @@ class Library:
         values, powers = (ctypes.c_uint64 * self._VALUES)(), (ctypes.c_int32 * self._POWERS)()
         lent, count = _lent(words)
         number = self._library.bounds_assess(lent, count, _budget(budget), values, powers)
-        place, lower, upper, cut, deaths, cuts, steps = values
-        if number in SENTENCES:
-            raise Refused(number, place)
-        if number != 0:
-            raise UnknownRefusal(number, place)
-        figures = [Figure(digits, power) for digits, power in zip((lower, upper, cut), powers)]
-        return Report(*figures, deaths, cuts, steps)
+        return _report(number, values, powers)
+
+    def assess_rows(self, words, budget=MOST_BUDGET, lent=MOST_ROWS):
+        """The report on a model's words, and a Row for each state without exits that is the target of a transition, in order of state number. Lends so
+        many rows; the default is enough for every model. Raises Refused (14 where they are too few), or another Error, and then hands no rows back."""
+        values, powers = (ctypes.c_uint64 * self._VALUES)(), (ctypes.c_int32 * self._POWERS)()
+        count_of_rows = _whole(lent, "the number of rows")
+        rows = (_LentRow * max(1, count_of_rows))()
+        table, count = _lent(words)
+        number = self._library.bounds_assess_rows(table, count, _budget(budget), rows, count_of_rows, values, powers)
+        filled = _filled(number, rows)
+        return _report(number, values, powers), filled
 
     def text(self, words, budget=MOST_BUDGET):
         """What the report program prints."""
@@ -225,6 +258,38 @@ class Library:
         return answer == 1
 
 
+def _report(number, values, powers):
+    """What the library's numbers say. Only 0 is a report."""
+    place, lower, upper, cut, deaths, cuts, steps = values
+    if number in SENTENCES:
+        raise Refused(number, place)
+    if number != 0:
+        raise UnknownRefusal(number, place)
+    figures = [Figure(digits, power) for digits, power in zip((lower, upper, cut), powers)]
+    return Report(*figures, deaths, cuts, steps)
+
+
+def _filled(number, rows):
+    """The rows that the library filled beside a number: figures in a report, zeros where the budget was not enough (13), else none."""
+    filled = []
+    for row in rows:
+        if row.state == 0:
+            break
+        try:
+            figures = [Figure(figure.digits, figure.power) for figure in (row.lower, row.upper)]
+        except ValueError as error:
+            raise Error(f"the library answered with a row of state {row.state} that is none: {error}") from None
+        if not (filled[-1].state if filled else 0) < row.state <= MOST_ROWS:
+            raise Error(f"the library answered with a row of state {row.state}, which does not come next")
+        filled.append(Row(row.state, *figures))
+    if any(bytes(rows)[ctypes.sizeof(_LentRow) * len(filled) :]):
+        raise Error("the library answered with a row behind those that it fills")
+    zeros = all(row.lower.digits == row.upper.digits == 0 for row in filled)
+    if number != 0 and filled and not (number == 13 and zeros):
+        raise Error(f"the library answered with a row that does not belong to refusal {number}")
+    return filled
+
+
 def _lent(words):
     """A buffer that holds the words, and their number. What is no number of 32 bits is an OverflowError or a TypeError."""
     numbers = array("I", words)
@@ -233,8 +298,12 @@ def _lent(words):
 
 
 def _budget(budget):
+    return _whole(budget, "the budget")
+
+
+def _whole(given, name):
     """ctypes would cut a number to 64 bits."""
-    number = operator.index(budget) if hasattr(budget, "__index__") else -1
+    number = operator.index(given) if hasattr(given, "__index__") else -1
     if not 0 <= number < 2**64:
-        raise ValueError(f"the budget {budget!r} is no whole number of 64 bits")
+        raise ValueError(f"{name} {given!r} is no whole number of 64 bits")
     return number

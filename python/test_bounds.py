@@ -41,6 +41,35 @@ class Calls(unittest.TestCase):
                 seen += 1
         self.assertEqual(seen, 465)
 
+    def test_expected_rows(self):
+        """A line is a name, a budget, the number of rows lent, words and the answer, which ends in the rows that are filled."""
+        lines = (DATA / "rows.txt").read_text().splitlines()
+        for line in lines:
+            name, budget, lent, digits, expected = line.split(" ")
+            words = [int(digits[at : at + 8], 16) for at in range(0, len(digits), 8)]
+            try:
+                report, rows = self.library.assess_rows(words, int(budget), int(lent))
+                found = str(report) + "".join(f"row {row.state} {row.lower} {row.upper}\n" for row in rows)
+            except bounds.Refused as refused:
+                found = f"refused {refused.number} at {refused.place}\n"
+                # no rows are handed back with a refusal
+                expected = expected.split("|")[0]
+            self.assertEqual(found, expected.replace("|", "\n").replace("=", " ") + "\n", name)
+        self.assertEqual(len(lines), 60)
+
+    def test_rows(self):
+        report, rows = self.library.assess_rows(MODEL_A)
+        self.assertEqual(report, self.library.assess(MODEL_A))
+        self.assertEqual(rows, [bounds.Row(2, report.lower, report.upper)])
+        self.assertEqual(self.library.assess_rows(MODEL_A, 1, 1), (report, rows))
+        self.assertEqual(self.library.assess_rows(MODEL_A, 1, 5000), (report, rows))
+        with self.assertRaises(bounds.Refused) as raised:
+            self.library.assess_rows(MODEL_A, lent=0)
+        self.assertEqual(str(raised.exception), "refused 14 at 1: Fewer rows were lent than the 1 that the model needs.")
+        for lent in (-1, 2**64, 1.5, "1", None):
+            with self.assertRaises(ValueError):
+                self.library.assess_rows(MODEL_A, lent=lent)
+
     def test_refusals(self):
         with self.assertRaises(bounds.Refused) as raised:
             self.library.assess(MODEL_A[:6])

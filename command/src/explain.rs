@@ -1,9 +1,10 @@
 //! A refusal for whoever can mend it: the sentence, the lines that it speaks of, and what to look at.
 
 use crate::input::{Model, Spot};
-use crate::json;
 use crate::model::kind;
+use crate::{json, Done, Status};
 use bounds::{Place, Reason, Refusal};
+use std::io::Write;
 
 /// The places in the file that a refusal speaks of, if there are any.
 pub fn spots(model: &Model, refusal: Refusal) -> Vec<Spot> {
@@ -22,6 +23,13 @@ fn fast_exits(model: &Model, state: u64) -> Vec<Spot> {
     let leaves = |word: u32| word >> 28 == kind::FAST && u64::from(word >> 12 & 0xFFF) == state;
     let places = model.words.iter().enumerate().filter(|(_, word)| leaves(**word));
     places.filter_map(|(at, _)| model.spot(at)).collect()
+}
+
+/// Writes the refusal, for a reader or for a program.
+pub fn refused(model: &Model, refusal: Refusal, as_json: bool, out: &mut dyn Write) -> Done {
+    let explained = if as_json { object } else { text };
+    writeln!(out, "{}", explained(model, refusal))?;
+    Ok(Status::Refused)
 }
 
 /// Lines to be read.

@@ -14,6 +14,7 @@ mod json;
 pub mod model;
 mod progress;
 pub mod subcommands;
+mod table;
 
 use std::fmt;
 use std::io::{self, Write};

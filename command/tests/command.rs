@@ -43,6 +43,84 @@ fn reports() -> Tested {
     Ok(())
 }
 
+/// The greatest upper first, then the cut paths and the whole.
+#[test]
+fn rows() -> Tested {
+    let expected = "state  lower           upper           share\n\
+                    5      5.95907546E-10  6.00000000E-10  99.95%\n\
+                    3      2.93991641E-13  3.00000000E-13  0.05%\n\
+                    cut    -               0               -\n\
+                    all    5.96201537E-10  6.00300000E-10  100.00%\n";
+    let file = "examples/papers/tp2764-ex1.txt";
+    assert_eq!(said(&["rows", file], "")?, (0, expected.into(), "".into()));
+    let bytes = run(&["words", file], b"")?.stdout;
+    assert_eq!(run(&["rows", "-", "--budget=4"], &bytes)?.stdout, expected.as_bytes());
+    let (status, out, _) = said(&["rows", file, "--json"], "")?;
+    assert_eq!(status, 0);
+    let expected = "\"steps\": 4, \"rows\": [\
+                    {\"state\": 5, \"lower\": \"5.95907546E-10\", \"upper\": \"6.00000000E-10\", \"share\": \"99.95%\"}, \
+                    {\"state\": 3, \"lower\": \"2.93991641E-13\", \"upper\": \"3.00000000E-13\", \"share\": \"0.05%\"}]}\n";
+    assert!(out.starts_with("{\"answer\": \"report\", ") && out.ends_with(expected), "{out}");
+    Ok(())
+}
+
+/// A state that no path ends in has a row without a share; a model whose paths are all cut has no row.
+#[test]
+fn rows_without_a_share() -> Tested {
+    let lines = "states 4\nstart 1\ntime 10\nprune 0\nsteps 24\nentries 1\n\
+                 slow 1 2 1e-4\nslow 3 4 1e-4\n";
+    let expected = "state  lower          upper          share\n\
+                    2      9.99500000E-4  1.00000000E-3  100.00%\n\
+                    4      0              0              -\n\
+                    cut    -              0              -\n\
+                    all    9.99500000E-4  1.00000000E-3  100.00%\n";
+    assert_eq!(said(&["rows", "-"], lines)?, (0, expected.into(), "".into()));
+    let (_, out, _) = said(&["rows", "-", "--json"], lines)?;
+    assert!(out.contains("\"upper\": \"0\", \"share\": null}"), "{out}");
+    let (_, out, _) = said(&["rows", "examples/marked/d.txt"], "")?;
+    assert!(out.contains("\ncut    -      5.00000000E-5  100.00%\n"), "{out}");
+    assert_eq!(out.lines().count(), 3);
+    let (_, out, _) = said(&["rows", "examples/marked/d.txt", "--json"], "")?;
+    assert!(out.ends_with(", \"rows\": []}\n"), "{out}");
+    Ok(())
+}
+
+/// A refusal is printed as `bounds report` prints it.
+#[test]
+fn rows_of_what_is_refused() -> Tested {
+    for arguments in [&["examples/marked/g.txt"][..], &["examples/marked/b.txt", "--budget", "3"]] {
+        for more in [&[][..], &["--json"]] {
+            let asked = |name| said(&[&[name], arguments, more].concat(), "");
+            let (status, out, error) = asked("rows")?;
+            assert_eq!((status, error.as_str()), (1, ""));
+            assert_eq!(out, asked("report")?.1);
+        }
+    }
+    Ok(())
+}
+
+/// Every example: the rows' shares and the order of their uppers, beside the report.
+#[test]
+fn rows_of_examples() -> Tested {
+    for entry in std::fs::read_dir("../examples/papers")? {
+        let file = format!("examples/papers/{}", entry?.file_name().to_string_lossy());
+        let (status, out, _) = said(&["rows", &file], "")?;
+        assert_eq!(status, 0, "{file}");
+        let cells: Vec<Vec<&str>> =
+            out.lines().skip(1).map(|line| line.split_whitespace().collect()).collect();
+        let (rows, rest) = cells.split_at(cells.len() - 2);
+        let mut uppers = Vec::new();
+        for row in rows {
+            uppers.push(row[2].parse::<bounds::Figure>().map_err(|why| format!("{file}: {why}"))?);
+        }
+        assert!(uppers.windows(2).all(|two| two[0] >= two[1]), "{file}");
+        let report = said(&["report", &file], "")?.1;
+        let all = format!("lower {}\nupper {}\ncut {}\n", rest[1][1], rest[1][2], rest[0][2]);
+        assert!(report.starts_with(&all), "{file}");
+    }
+    Ok(())
+}
+
 #[test]
 fn requirements() -> Tested {
     let asked = |limit| said(&["report", "-", "--at-most", limit], DIGITS_A);
@@ -131,6 +209,9 @@ fn what_is_no_input() -> Tested {
             DIGITS_A,
             "bounds: --budget 18446744073709551616: expected a whole number of at most 18446744073709551615, such as 1000000\n",
         ),
+        (&["rows", "-", "--at-most", "1"], DIGITS_A, "bounds: --at-most is no option; there are "),
+        (&["rows", "-", "--budget", "x"], DIGITS_A, "bounds: --budget x: expected a whole number"),
+        (&["rows"], "", "bounds: expected FILE"),
         (&["sweep", "-"], DIGITS_A, "bounds: expected one of --time, "),
         (
             &["sweep", "-", "--time", "1", "--prune", "0"],
@@ -258,7 +339,7 @@ fn help_and_version() -> Tested {
     let (status, usage, _) = said(&["--help"], "")?;
     assert_eq!(status, 0);
     assert!(usage.ends_with(", 2 usage or input, 3 upper is above --at-most.\n"), "{usage}");
-    for name in ["report", "sweep", "words", "text", "line", "answers"] {
+    for name in ["report", "rows", "sweep", "words", "text", "line", "answers"] {
         assert!(usage.contains(&format!("  bounds {name}")), "{name}");
         let (status, help, _) = said(&[name, "--help"], "")?;
         assert_eq!(status, 0);

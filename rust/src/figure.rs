@@ -7,12 +7,17 @@ const GREATEST: u64 = 999_999_999;
 
 /// digits × 10^power: zero (held with power 0), or nine digits from 100,000,000 to 999,999,999.
 #[derive(Clone, Copy, Debug, Default, PartialEq, Eq, Hash)]
+#[repr(C)]
 pub struct Figure {
     digits: u64,
     power: i32,
 }
 
 impl Figure {
+    pub(crate) const ZERO: Figure = Figure { digits: 0, power: 0 };
+    /// The greatest of all.
+    pub(crate) const MOST: Figure = Figure { digits: GREATEST, power: i32::MAX };
+
     /// The figure digits × 10^power, if they are one.
     pub const fn new(digits: u64, power: i32) -> Option<Figure> {
         let zero = digits == 0 && power == 0;
@@ -30,6 +35,12 @@ impl Figure {
             power = power.saturating_sub(1);
         }
         Figure::new(digits, power.try_into().ok()?)
+    }
+
+    /// Digits and a power that nobody has looked at, as the library may hand them over.
+    #[cfg(test)]
+    pub(crate) const fn unlooked(digits: u64, power: i32) -> Figure {
+        Figure { digits, power }
     }
 
     pub const fn digits(self) -> u64 {

@@ -9,14 +9,25 @@
 //! # Ok::<(), Box<dyn std::error::Error>>(())
 //! ```
 //!
-//! The functions behind [`assess`], [`text`], [`words_of`] and [`Figure::at_or_below`] are proved to give document 01's answer to every list of words
-//! and every budget. What this crate adds (its types, how they print, how they are ordered) is not proved; its tests compare it with the proved text.
+//! Which failure dominates, [`assess_rows`] says: a row for each state without exits.
+//!
+//! ```
+//! # let model_a = [0x11002001, 0x2000000A, 0x30000000, 0x41801000, 0x50001002, 0x60400001, 0xF0000000];
+//! let mut room = [bounds::Row::default(); bounds::MOST_ROWS];
+//! let (report, rows) = bounds::assess_rows(&model_a, bounds::MOST_BUDGET, &mut room)?;
+//! assert_eq!((rows.len(), rows[0].state, rows[0].upper), (1, 2, report.upper));
+//! # Ok::<(), bounds::Error>(())
+//! ```
+//!
+//! The functions behind [`assess`], [`assess_rows`], [`text`], [`words_of`] and [`Figure::at_or_below`] are proved to give the documents' answer to every
+//! list of words and every budget. What this crate adds (its types, how they print, how they are ordered) is not proved; its tests compare it with the
+//! proved text.
 //!
 //! The crate fails closed: only 0 from the library is a report, and whatever the wrapper does not know is an [`Error`]. Every call looks first whether
 //! the library is of this crate's own [`VERSION`], since another may write more numbers than the wrapper has room for.
 //!
 //! The library keeps no state and asks for no memory, and the crate needs neither the standard library nor an allocator: any number of threads may call
-//! at once. A call needs at most [`STACK`] bytes of stack, which is less than a thread of the standard library has.
+//! at once. A call needs at most [`STACK`] bytes of stack, [`assess_rows`] 40 kilobytes more; a thread of the standard library has both.
 
 #![no_std]
 
@@ -26,15 +37,17 @@ mod figure;
 mod library;
 mod refusal;
 mod report;
+mod rows;
 mod spelling;
 mod text;
 mod version;
 
 pub use error::Error;
 pub use figure::Figure;
-pub use library::{assess, text, words_of};
+pub use library::{assess, assess_rows, text, words_of};
 pub use refusal::{Party, Place, Reason, Refusal, Sentence};
 pub use report::Report;
+pub use rows::Row;
 pub use spelling::NoFigure;
 pub use text::Text;
 pub use version::{library_version, Version, VERSION};
@@ -45,8 +58,11 @@ pub const MOST_WORDS: usize = 16_005;
 /// The greatest budget that is allowed; the least is 1.
 pub const MOST_BUDGET: u64 = 1_000_000;
 
+/// So many rows are enough for every model.
+pub const MOST_ROWS: usize = 1_000;
+
 /// The words that [`words_of`] writes at most: one more than a model may have.
 pub const WORDS_SIZE: usize = 16_006;
 
 /// The stack that a call needs at most, in bytes: measured, as `include/bounds.h` says, not proved.
-pub const STACK: usize = 262_144;
+pub const STACK: usize = 327_680;

@@ -1,7 +1,7 @@
 //! The calls of the archive. `include/bounds.h` says what each promises. Each but that for the version looks at the version first.
 
 use crate::text::{self, Text};
-use crate::{version, Error, Figure, Reason, Refusal, Report, WORDS_SIZE};
+use crate::{rows, version, Error, Figure, Reason, Refusal, Report, Row, MOST_ROWS, WORDS_SIZE};
 
 const VALUES: usize = 7;
 const POWERS: usize = 3;
@@ -12,6 +12,15 @@ extern "C" {
         words: *const u32,
         count: usize,
         budget: u64,
+        values: *mut u64,
+        powers: *mut i32,
+    ) -> u64;
+    fn bounds_assess_rows(
+        words: *const u32,
+        count: usize,
+        budget: u64,
+        rows: *mut Row,
+        row_count: usize,
         values: *mut u64,
         powers: *mut i32,
     ) -> u64;
@@ -35,6 +44,40 @@ pub fn assess(words: &[u32], budget: u64) -> Result<Report, Error> {
         bounds_assess(words.as_ptr(), words.len(), budget, values.as_mut_ptr(), powers.as_mut_ptr())
     };
     answer(number, values, powers)
+}
+
+/// The report on a model's words, and the bounds on each way to fail: the rows that were filled, the first of `rows`, in order of state number, one for
+/// each state without exits that is the target of a transition. Rows behind them are unchanged. Where `rows` are too few, the model is refused
+/// ([`Reason::TooFewRows`], with the number that is needed as its place); [`MOST_ROWS`] are always enough. A model that is refused as
+/// [`Reason::OverBudget`] has its rows filled with state numbers and zeros; any other error changes no row.
+pub fn assess_rows<'a>(
+    words: &[u32],
+    budget: u64,
+    rows: &'a mut [Row],
+) -> Result<(Report, &'a [Row]), Error> {
+    version::agreed(version::library_version())?;
+    let mut values = [0; VALUES];
+    let mut powers = [0; POWERS];
+    // The library writes into rows of this function's own, and what it wrote is looked at before the caller has it. No model needs more of them.
+    let mut own = [rows::UNTOUCHED; MOST_ROWS];
+    let lent = &mut own[..rows.len().min(MOST_ROWS)];
+    // SAFETY: as in `assess`; the rows have the header's layout, and their pointer and length belong together.
+    let number = unsafe {
+        bounds_assess_rows(
+            words.as_ptr(),
+            words.len(),
+            budget,
+            lent.as_mut_ptr(),
+            lent.len(),
+            values.as_mut_ptr(),
+            powers.as_mut_ptr(),
+        )
+    };
+    let report = answer(number, values, powers);
+    let filled = rows::filled(lent, &report)?;
+    let (first, _) = rows.split_at_mut(filled.len());
+    first.copy_from_slice(filled);
+    Ok((report?, first))
 }
 
 /// What the library's numbers say. Only 0 is a report.
@@ -107,7 +150,7 @@ mod tests {
     #[test]
     fn every_number() {
         for number in (0..=64).chain([u64::MAX - 1, u64::MAX]) {
-            let known = (1..=11).contains(&number) || number == 13;
+            let known = (1..=11).contains(&number) || number == 13 || number == 14;
             match answer(number, VALUES_A, POWERS_A) {
                 Ok(report) => {
                     assert_eq!(number, 0);

@@ -8,7 +8,7 @@ pub struct Refusal {
     pub place: u64,
 }
 
-/// Document 01's reasons. Later versions add to them.
+/// The documents' reasons. Later versions add to them.
 #[derive(Clone, Copy, Debug, PartialEq, Eq)]
 #[non_exhaustive]
 pub enum Reason {
@@ -24,6 +24,8 @@ pub enum Reason {
     ProbabilitiesNotOne,
     StartWithoutExits,
     OverBudget,
+    /// Only of [`crate::assess_rows`].
+    TooFewRows,
 }
 
 /// Who can mend what a refusal names.
@@ -45,6 +47,8 @@ pub enum Place {
     Word,
     /// A state.
     State,
+    /// A number of rows: so many are needed.
+    Rows,
 }
 
 /// All that is known of a reason.
@@ -57,7 +61,7 @@ struct Entry {
 }
 
 impl Reason {
-    pub const ALL: [Reason; 12] = [
+    pub const ALL: [Reason; 13] = [
         Reason::TooManyWords,
         Reason::BudgetOutOfRange,
         Reason::WrongKind,
@@ -70,6 +74,7 @@ impl Reason {
         Reason::ProbabilitiesNotOne,
         Reason::StartWithoutExits,
         Reason::OverBudget,
+        Reason::TooFewRows,
     ];
 
     /// The rows of the table in docs/REPORT.md; tests/wording compares them.
@@ -159,10 +164,17 @@ impl Reason {
                 sentence: "The model has more steps than the budget allows.",
                 advice: "A caller below 1,000,000: raise the budget. Else raise P, or lower V or L, which as a rule makes `cut` greater.",
             },
+            Reason::TooFewRows => Entry {
+                number: 14,
+                party: Party::Caller,
+                place: Place::Rows,
+                sentence: "Fewer rows were lent than the PLACE that the model needs.",
+                advice: "The call. A row is needed for each state without exits that is the target of a transition; 1,000 are always enough.",
+            },
         }
     }
 
-    /// Document 01's number.
+    /// The documents' number.
     pub fn number(self) -> u64 {
         self.entry().number
     }

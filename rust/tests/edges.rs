@@ -4,7 +4,8 @@ use std::error::Error;
 use std::thread::Builder;
 
 use bounds::{
-    Error as NoReport, Figure, Reason, Refusal, MOST_BUDGET, MOST_WORDS, STACK, WORDS_SIZE,
+    Error as NoReport, Figure, Reason, Refusal, Row, MOST_BUDGET, MOST_ROWS, MOST_WORDS, STACK,
+    WORDS_SIZE,
 };
 
 const MODEL_A: [u32; 7] =
@@ -37,11 +38,54 @@ fn refusals() {
     refused(&vec![0; MOST_WORDS], 1, Reason::WrongKind, 0);
 }
 
+/// Model A needs one row. Rows of an earlier call stay behind those that are filled.
+#[test]
+fn rows() -> Result<(), NoReport> {
+    let report = bounds::assess(&MODEL_A, MOST_BUDGET)?;
+    let of_2 = Row { state: 2, lower: report.lower, upper: report.upper };
+    let before = Row { state: 77, lower: report.upper, upper: report.lower };
+    for lent in [1, 2, 3, MOST_ROWS, MOST_ROWS + 1, 3 * MOST_ROWS] {
+        let mut rows = vec![before; lent];
+        assert_eq!(bounds::assess_rows(&MODEL_A, 1, &mut rows)?, (report, &[of_2][..]));
+        assert!(rows[0] == of_2 && rows[1..].iter().all(|row| *row == before), "{lent}");
+    }
+    let refused = |words: &[u32], budget, lent, reason, place| {
+        let mut rows = vec![before; lent];
+        let answer = bounds::assess_rows(words, budget, &mut rows).map(|_| ());
+        assert_eq!(answer, Err(NoReport::Refused(Refusal { reason, place })), "{lent}");
+        assert!(rows.iter().all(|row| *row == before), "{reason:?}");
+    };
+    refused(&MODEL_A, 1, 0, Reason::TooFewRows, 1);
+    refused(&MODEL_A, 0, 0, Reason::BudgetOutOfRange, 0);
+    refused(&MODEL_A[..6], 1, 0, Reason::WrongKind, 6);
+    refused(&[], 1, 5, Reason::WrongKind, 0);
+    Ok(())
+}
+
+/// More steps than the budget: a row has its state's number and zeros.
+#[test]
+fn rows_over_the_budget() {
+    let words: [u32; 9] = [
+        0x11003001, 0x2000000A, 0x30000000, 0x41801000, 0x50001002, 0x60400001, 0x50001003,
+        0x60400001, 0xF0000000,
+    ];
+    let before = Row { state: 77, ..Row::default() };
+    let mut rows = [before; 3];
+    let expected = Err(NoReport::Refused(Refusal { reason: Reason::OverBudget, place: 0 }));
+    assert_eq!(bounds::assess_rows(&words, 1, &mut rows).map(|_| ()), expected);
+    let zeros = |state| Row { state, ..Row::default() };
+    assert_eq!(rows, [zeros(2), zeros(3), before]);
+}
+
 #[test]
 fn sentences() {
     let sentence = |reason, place| Refusal { reason, place }.sentence().to_string();
     assert_eq!(sentence(Reason::StartWithoutExits, 17), "The start state 17 has no exits.");
     assert_eq!(sentence(Reason::TooManyWords, 0), "The model has more than 16,005 words.");
+    assert_eq!(
+        sentence(Reason::TooFewRows, 3),
+        "Fewer rows were lent than the 3 that the model needs."
+    );
     for reason in Reason::ALL {
         assert!(!sentence(reason, 5).contains("PLACE"), "{reason:?}");
         assert!(!reason.advice().is_empty(), "{reason:?}");
@@ -58,7 +102,7 @@ fn bytes() -> Result<(), NoReport> {
     Ok(())
 }
 
-/// In threads that have the stack that a call needs, and 64 kilobytes for what they do themselves.
+/// In threads that have the stack that a call needs, and 128 kilobytes for what they do themselves: rows, lent and kept, are 40 each.
 #[test]
 fn threads() -> Result<(), Box<dyn Error>> {
     let loops: [u32; 9] = [
@@ -69,9 +113,11 @@ fn threads() -> Result<(), Box<dyn Error>> {
     assert!(first.is_ok());
     std::thread::scope(|scope| {
         for _ in 0..4 {
-            Builder::new().stack_size(STACK + 65_536).spawn_scoped(scope, || {
+            Builder::new().stack_size(STACK + 131_072).spawn_scoped(scope, || {
                 for _ in 0..500 {
                     assert_eq!(bounds::assess(&loops, MOST_BUDGET), first);
+                    let with_rows = bounds::assess_rows(&loops, MOST_BUDGET, &mut []);
+                    assert_eq!(with_rows.map(|(report, _)| report), first);
                 }
             })?;
         }

@@ -1,6 +1,8 @@
 //! The header and this crate say the same.
 
-use bounds::{Party, Reason, MOST_BUDGET, MOST_WORDS, STACK, VERSION, WORDS_SIZE};
+use std::mem::{align_of, offset_of, size_of};
+
+use bounds::{Party, Reason, Row, MOST_BUDGET, MOST_ROWS, MOST_WORDS, STACK, VERSION, WORDS_SIZE};
 
 /// The header has the same version, sizes, numbers and groups. (tests/wording compares the sentences.)
 #[test]
@@ -10,6 +12,7 @@ fn header() {
     let sizes = [
         ("MOST_WORDS", MOST_WORDS as u64),
         ("MOST_BUDGET", MOST_BUDGET),
+        ("MOST_ROWS", MOST_ROWS as u64),
         ("WORDS_SIZE", WORDS_SIZE as u64),
         ("STACK", STACK as u64),
     ];
@@ -32,6 +35,15 @@ fn header() {
         let constant = format!("BOUNDS_{}", shouted(&format!("{reason:?}")));
         assert!(group.contains(&format!("{constant} = {}", reason.number())), "{constant}");
     }
+}
+
+/// A row has the layout that the header states.
+#[test]
+fn rows() {
+    assert!(include_str!("../../include/bounds.h").contains("sizeof(bounds_row) == 40 "));
+    assert_eq!((size_of::<Row>(), align_of::<Row>()), (40, 8));
+    let at = [offset_of!(Row, state), offset_of!(Row, lower), offset_of!(Row, upper)];
+    assert_eq!(at, [0, 8, 24]);
 }
 
 /// `SelfTransition` as `SELF_TRANSITION`.

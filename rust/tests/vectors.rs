@@ -1,8 +1,10 @@
 //! Every model with an expected answer: the answer in numbers prints as expected, and so does the proved text.
 //!
 //! A line of a file is a name, a budget, a model's words (eight hexadecimal digits each; `-` at the end stands for left-over bytes, `.` for no words)
-//! and the answer, with `|` for line ends and `=` for spaces.
+//! and the answer, with `|` for line ends and `=` for spaces. In `rows.txt` the number of rows that are lent stands behind the budget, and the answer has a
+//! line `row STATE LOWER UPPER` for each row that is filled.
 
+use bounds::Row;
 use std::error::Error;
 use std::path::Path;
 
@@ -36,7 +38,32 @@ fn check(line: &str) -> Result<(), Box<dyn Error>> {
     Ok(())
 }
 
-fn check_file(name: &str) -> Result<usize, Box<dyn Error>> {
+/// Rows behind those that are filled are as they were.
+fn check_rows(line: &str) -> Result<(), Box<dyn Error>> {
+    let [name, budget, lent, words, expected] = line.split(' ').collect::<Vec<_>>()[..] else {
+        return Err("a line that isn't five parts".into());
+    };
+    let mut room = [0; bounds::WORDS_SIZE];
+    let words = bounds::words_of(&bytes_of(words)?, &mut room)?;
+    let before = Row { state: 4095, ..Row::default() };
+    let mut rows = vec![before; lent.parse()?];
+    let (answer, filled) = match bounds::assess_rows(words, budget.parse()?, &mut rows) {
+        Ok((report, filled)) => (report.to_string(), Some(filled.to_vec())),
+        Err(error) => (error.to_string(), None),
+    };
+    let changed: Vec<Row> = rows.iter().filter(|row| **row != before).copied().collect();
+    assert_eq!(rows[..changed.len()], changed, "{name}");
+    assert!(filled.map_or(true, |filled| filled == changed), "{name}");
+    let lines = changed.iter().map(|r| format!("|row={}={}={}", r.state, r.lower, r.upper));
+    let shown = answer.replace('\n', "|").replace(' ', "=") + &lines.collect::<String>();
+    assert_eq!(shown, expected, "{name}");
+    Ok(())
+}
+
+fn check_file(
+    name: &str,
+    check: fn(&str) -> Result<(), Box<dyn Error>>,
+) -> Result<usize, Box<dyn Error>> {
     let data = Path::new(env!("CARGO_MANIFEST_DIR")).join("../reference/tests/data");
     let text = std::fs::read_to_string(data.join(name))?;
     for line in text.lines() {
@@ -47,7 +74,13 @@ fn check_file(name: &str) -> Result<usize, Box<dyn Error>> {
 
 #[test]
 fn expected_answers() -> Result<(), Box<dyn Error>> {
-    assert_eq!(check_file("models.txt")?, 367);
-    assert_eq!(check_file("papers.txt")?, 98);
+    assert_eq!(check_file("models.txt", check)?, 367);
+    assert_eq!(check_file("papers.txt", check)?, 98);
+    Ok(())
+}
+
+#[test]
+fn expected_rows() -> Result<(), Box<dyn Error>> {
+    assert_eq!(check_file("rows.txt", check_rows)?, 60);
     Ok(())
 }

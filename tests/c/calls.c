@@ -6,34 +6,13 @@
  * The files are those of models.h. The report program, whose budget is 1,000,000, is run where that is the model's budget.
  */
 #define _POSIX_C_SOURCE 200809L
+#include "answers.h"
 #include "models.h"
-#include <inttypes.h>
 #include <limits.h>
 #include <pthread.h>
 #include <unistd.h>
 
 enum { GUARD = 16 };
-
-/* ---- The answer as text, from numbers */
-
-static int put_figure(char *to, size_t room, const char *label, bounds_figure f)
-{
-    if (f.digits == 0)
-        return snprintf(to, room, "%s 0\n", label);
-    return snprintf(to, room, "%s %" PRIu64 ".%08" PRIu64 "E%" PRId64 "\n", label, f.digits / 100000000, f.digits % 100000000, (int64_t)f.power + 8);
-}
-
-static void put_answer(char *to, size_t room, bounds_answer a)
-{
-    if (a.refusal != BOUNDS_REPORTED) {
-        snprintf(to, room, "refused %" PRIu64 " at %" PRIu64 "\n", a.refusal, a.place);
-        return;
-    }
-    int n = put_figure(to, room, "lower", a.lower);
-    n += put_figure(to + n, room - (size_t)n, "upper", a.upper);
-    n += put_figure(to + n, room - (size_t)n, "cut", a.cut);
-    snprintf(to + n, room - (size_t)n, "deaths %" PRIu64 "\ncuts %" PRIu64 "\nsteps %" PRIu64 "\n", a.deaths, a.cuts, a.steps);
-}
 
 /* ---- One model by each function */
 
@@ -178,13 +157,13 @@ static void check_edges(void)
 
 /* ---- What is inline */
 
-/* Every number but 0 has a sentence, and one that is no number of document 01's says that it is not known. */
+/* Every number but 0 has a sentence, and one that is no number of the documents' says that it is not known. */
 static void check_sentences(void)
 {
     const char *unknown = bounds_sentence(12);
     char text[BOUNDS_SENTENCE_SIZE + GUARD];
     for (uint64_t refusal = 0; refusal <= 64; refusal++) {
-        int known = (refusal >= 1 && refusal <= 11) || refusal == 13;
+        int known = (refusal >= 1 && refusal <= 11) || refusal == 13 || refusal == 14;
         const char *sentence = bounds_sentence(refusal);
         if ((*sentence == '\0') != (refusal == 0) || (strcmp(sentence, unknown) == 0) != (refusal != 0 && !known))
             fail("a sentence too many or too few", "bounds_sentence");
@@ -194,6 +173,8 @@ static void check_sentences(void)
             fail("a sentence with its place", "bounds_sentence_at");
     }
     if (strcmp(bounds_sentence_at(11, 17, text), "The start state 17 has no exits.") != 0)
+        fail("a sentence with its place", "bounds_sentence_at");
+    if (strcmp(bounds_sentence_at(14, 3, text), "Fewer rows were lent than the 3 that the model needs.") != 0)
         fail("a sentence with its place", "bounds_sentence_at");
     if (strcmp(bounds_sentence_at(11, 0, text), "The start state 0 has no exits.") != 0)
         fail("a sentence with its place", "bounds_sentence_at");

@@ -1,6 +1,7 @@
 /*
  * Models with expected answers, from a file. A line is a name, a budget, a model's words and the expected answer. The words have eight
  * hexadecimal digits each; `-` at their end stands for left-over bytes, `.` for no words. The answer has `|` for line ends and `=` for spaces.
+ * Where a number stands behind the budget, so many rows are lent, and the answer ends in those that are filled.
  */
 #ifndef MODELS_H
 #define MODELS_H
@@ -17,7 +18,8 @@ typedef struct {
     uint64_t budget;
     uint8_t bytes[MOST_BYTES + 8];
     size_t length;
-    char expected[512];
+    long rows; /* the number lent, or -1 */
+    char expected[1 << 16];
 } model;
 
 static void fail(const char *what, const char *of)
@@ -33,9 +35,16 @@ static uint8_t nibble(char c)
 
 static void parse(char *line, model *m)
 {
-    char *name = strtok(line, " "), *budget = strtok(NULL, " "), *words = strtok(NULL, " "), *expected = strtok(NULL, "\n");
+    char *name = strtok(line, " \n"), *budget = strtok(NULL, " \n"), *words = strtok(NULL, " \n"), *expected = strtok(NULL, " \n");
+    char *fifth = strtok(NULL, " \n");
     if (expected == NULL)
-        fail("a line that isn't four parts", name == NULL ? "?" : name);
+        fail("a line that isn't four or five parts", name == NULL ? "?" : name);
+    m->rows = -1;
+    if (fifth != NULL) {
+        m->rows = strtol(words, NULL, 10);
+        words = expected;
+        expected = fifth;
+    }
     snprintf(m->name, sizeof m->name, "%s", name);
     m->budget = strtoull(budget, NULL, 10);
     m->length = 0;

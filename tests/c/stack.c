@@ -18,30 +18,38 @@ static uint8_t *stack;
 static uint32_t words[BOUNDS_WORDS_SIZE];
 static size_t count;
 static uint64_t budget;
-static size_t most;
+static size_t most[3]; /* by function */
 static uint8_t *entered; /* where the stack stood before the call */
+static bounds_row rows[BOUNDS_MOST_ROWS];
 
-static void *call(void *function)
+enum function { ASSESS, ASSESS_ROWS, TEXT };
+
+static void *call(void *asked)
 {
     uint8_t text[BOUNDS_TEXT_SIZE];
     uint64_t values[BOUNDS_VALUES];
     int32_t powers[BOUNDS_POWERS];
     entered = (uint8_t *)__builtin_frame_address(0);
-    if (function == NULL)
+    switch (*(enum function *)asked) {
+    case ASSESS:
         bounds_assess(words, count, budget, values, powers);
-    else
+        break;
+    case ASSESS_ROWS:
+        bounds_assess_rows(words, count, budget, rows, BOUNDS_MOST_ROWS, values, powers);
+        break;
+    default:
         bounds_text(words, count, budget, text);
+    }
     return NULL;
 }
 
-/* `function` is null for bounds_assess, else bounds_text is called. */
-static void measure(void *function)
+static void measure(enum function function)
 {
     pthread_attr_t attributes;
     pthread_t thread;
     memset(stack, PATTERN, STACK);
     pthread_attr_init(&attributes);
-    if (pthread_attr_setstack(&attributes, stack, STACK) != 0 || pthread_create(&thread, &attributes, call, function) != 0)
+    if (pthread_attr_setstack(&attributes, stack, STACK) != 0 || pthread_create(&thread, &attributes, call, &function) != 0)
         fail("no thread", "stack");
     pthread_join(thread, NULL);
     pthread_attr_destroy(&attributes);
@@ -49,21 +57,21 @@ static void measure(void *function)
     while (lowest < entered && *lowest == PATTERN)
         lowest++;
     size_t used = (size_t)(entered - lowest);
-    most = used > most ? used : most;
+    most[function] = used > most[function] ? used : most[function];
 }
 
-static void measure_both(void)
+static void measure_each(void)
 {
-    static int text;
-    measure(NULL);
-    measure(&text);
+    measure(ASSESS);
+    measure(ASSESS_ROWS);
+    measure(TEXT);
 }
 
 static void measure_model(const model *m)
 {
     count = bounds_words(m->bytes, m->length, words);
     budget = m->budget;
-    measure_both();
+    measure_each();
 }
 
 /* A ring of 25 states, each with a slow exit to the next; where `fast` is set, with a fast one to a state without exits as well. */
@@ -87,7 +95,7 @@ static void measure_ring(int fast)
     words[n++] = 0xF0000000;
     count = n;
     budget = BOUNDS_MOST_BUDGET;
-    measure_both();
+    measure_each();
 }
 
 int main(int arguments, char **files)
@@ -100,6 +108,7 @@ int main(int arguments, char **files)
     measure_ring(1);
     for (int i = 1; i < arguments; i++)
         models += each_model(files[i], measure_model);
-    printf("stack: %zu bytes at most over %ld models, of the %d that the header states\n", most, models, BOUNDS_STACK);
-    return most > BOUNDS_STACK;
+    printf("stack: %zu bytes at most over %ld models, with rows %zu and as text %zu, of the %d that the header states\n", most[ASSESS], models,
+           most[ASSESS_ROWS], most[TEXT], BOUNDS_STACK);
+    return most[ASSESS] > BOUNDS_STACK || most[ASSESS_ROWS] > BOUNDS_STACK || most[TEXT] > BOUNDS_STACK;
 }

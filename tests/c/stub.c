@@ -1,7 +1,7 @@
 /*
- * A stand-in for the library, for what the doors do with a version or a refusal that they do not know. BOUNDS_STUB_VERSION is the version that it
- * says it is of, BOUNDS_STUB_REFUSAL the number that it refuses by. Where the version is another than the header's, nothing else may be called: the
- * program is ended.
+ * A stand-in for the library, for what the doors do with a version, a refusal or a row that they do not know. BOUNDS_STUB_VERSION is the version that
+ * it says it is of, BOUNDS_STUB_REFUSAL the number that it refuses by; unless BOUNDS_STUB_STATE is 0, the first row is of that state, with
+ * BOUNDS_STUB_DIGITS in both figures. Where the version is another than the header's, nothing else may be called: the program is ended.
  */
 #include "../../include/bounds.h"
 #include <stdio.h>
@@ -34,6 +34,18 @@ uint64_t bounds_assess(const uint32_t *words, size_t count, uint64_t budget, uin
     memset(powers, 0, BOUNDS_POWERS * sizeof *powers);
     values[BOUNDS_PLACE] = 5;
     return number("BOUNDS_STUB_REFUSAL");
+}
+
+uint64_t bounds_assess_rows(const uint32_t *words, size_t count, uint64_t budget, bounds_row *rows, size_t row_count, uint64_t values[BOUNDS_VALUES],
+                            int32_t powers[BOUNDS_POWERS])
+{
+    uint64_t state = number("BOUNDS_STUB_STATE"), digits = number("BOUNDS_STUB_DIGITS");
+    called("bounds_assess_rows");
+    if (state != 0 && row_count > 0) {
+        bounds_row row = { state, { digits, 0 }, { digits, 0 } };
+        rows[0] = row;
+    }
+    return bounds_assess(words, count, budget, values, powers);
 }
 
 size_t bounds_text(const uint32_t *words, size_t count, uint64_t budget, uint8_t text[BOUNDS_TEXT_SIZE])

@@ -3,6 +3,7 @@
 mod answers;
 mod line;
 mod report;
+mod rows;
 mod sweep;
 mod text;
 mod words;
@@ -21,6 +22,7 @@ pub struct Subcommand {
 
 pub const ALL: &[Subcommand] = &[
     report::SUBCOMMAND,
+    rows::SUBCOMMAND,
     sweep::SUBCOMMAND,
     words::SUBCOMMAND,
     text::SUBCOMMAND,

@@ -37,11 +37,7 @@ fn run(given: &[&str], out: &mut dyn Write) -> Done {
     let as_json = arguments.flag("json");
     let report = match bounds::assess(&model.words, budget) {
         Ok(report) => report,
-        Err(Error::Refused(refusal)) => {
-            let explained = if as_json { explain::object } else { explain::text };
-            writeln!(out, "{}", explained(&model, refusal))?;
-            return Ok(Status::Refused);
-        }
+        Err(Error::Refused(refusal)) => return explain::refused(&model, refusal, as_json, out),
         Err(error) => return Err(error.into()),
     };
     let meets = limit.map(|limit| report.upper.at_or_below(limit)).transpose()?;
@@ -65,8 +61,15 @@ fn limit(arguments: &Arguments) -> Result<Option<Figure>, Failure> {
 }
 
 fn object(report: &Report, meets: Option<bool>) -> String {
+    let mut fields = fields(report);
+    fields.extend(meets.map(|meets| ("meets", meets.to_string())));
+    json::object(&fields)
+}
+
+/// A report's names and values of JSON.
+pub fn fields(report: &Report) -> Vec<(&'static str, String)> {
     let figure = |figure: Figure| json::string(&figure.to_string());
-    let mut fields = vec![
+    vec![
         ("answer", json::string("report")),
         ("lower", figure(report.lower)),
         ("upper", figure(report.upper)),
@@ -74,7 +77,5 @@ fn object(report: &Report, meets: Option<bool>) -> String {
         ("deaths", report.deaths.to_string()),
         ("cuts", report.cuts.to_string()),
         ("steps", report.steps.to_string()),
-    ];
-    fields.extend(meets.map(|meets| ("meets", meets.to_string())));
-    json::object(&fields)
+    ]
 }

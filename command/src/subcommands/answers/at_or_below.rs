@@ -1,9 +1,10 @@
 //! `at-or-below figure=FIGURE limit=FIGURE`: how a figure stands to a requirement.
 
-use super::{Fields, Tool};
+use super::{Fields, Keys, Tool};
 use bounds::Figure;
 
-pub const TOOL: Tool = Tool { name: "at-or-below", keys: &["figure", "limit"], answer };
+pub const TOOL: Tool =
+    Tool { name: "at-or-below", keys: Keys { needed: &["figure", "limit"], free: &[] }, answer };
 
 fn answer(fields: &Fields) -> Result<String, String> {
     let figure = |(digits, power)| Figure::new(digits, power);

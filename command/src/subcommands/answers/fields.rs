@@ -4,41 +4,47 @@ use crate::arguments::whole_number;
 use crate::echo::quoted;
 use crate::model::words::word_of;
 
-/// The values of a tool's keys, in the order of the keys.
+/// The keys of a tool's fields: those that every case has, and those that one may have.
+pub struct Keys {
+    pub needed: &'static [&'static str],
+    pub free: &'static [&'static str],
+}
+
+/// The values of a case's keys.
 pub struct Fields<'a> {
-    keys: &'static [&'static str],
-    values: Vec<&'a str>,
+    given: Vec<(&'a str, &'a str)>,
 }
 
 impl<'a> Fields<'a> {
-    /// Each key once, in any order, and no other.
-    pub fn parse(
-        line: Option<&'a str>,
-        keys: &'static [&'static str],
-    ) -> Result<Fields<'a>, String> {
-        let mut values = vec![None; keys.len()];
+    /// Each needed key once, each free one at most once, in any order, and no other.
+    pub fn parse(line: Option<&'a str>, keys: &Keys) -> Result<Fields<'a>, String> {
+        let known = [keys.needed, keys.free].concat();
+        let mut fields = Fields { given: Vec::new() };
         for field in line.into_iter().flat_map(|line| line.split(' ')) {
             let (key, value) = field
                 .split_once('=')
                 .ok_or_else(|| format!("{} is no KEY=VALUE", quoted(field)))?;
-            let at = keys.iter().position(|known| *known == key);
-            let at = at.ok_or_else(|| {
-                format!("{} is no key: expected {}", quoted(key), keys.join(", "))
-            })?;
-            if values[at].replace(value).is_some() {
+            if !known.contains(&key) {
+                return Err(format!("{} is no key: expected {}", quoted(key), known.join(", ")));
+            }
+            if fields.has(key) {
                 return Err(format!("{key} stands twice"));
             }
+            fields.given.push((key, value));
         }
-        let missing = keys.iter().zip(&values).find(|(_, value)| value.is_none());
-        match missing {
-            Some((key, _)) => Err(format!("{key} is missing")),
-            None => Ok(Fields { keys, values: values.into_iter().flatten().collect() }),
+        match keys.needed.iter().find(|key| !fields.has(key)) {
+            Some(key) => Err(format!("{key} is missing")),
+            None => Ok(fields),
         }
     }
 
+    pub fn has(&self, key: &str) -> bool {
+        self.given.iter().any(|(given, _)| *given == key)
+    }
+
     fn value(&self, key: &str) -> Result<&'a str, String> {
-        let at = self.keys.iter().position(|known| *known == key);
-        at.map(|at| self.values[at]).ok_or_else(|| format!("{key} is missing"))
+        let found = self.given.iter().find(|(given, _)| *given == key);
+        found.map(|(_, value)| *value).ok_or_else(|| format!("{key} is missing"))
     }
 
     pub fn number(&self, key: &str) -> Result<u64, String> {

@@ -8,7 +8,7 @@ use super::Subcommand;
 use crate::arguments::Takes;
 use crate::echo::quoted;
 use crate::{Done, Failure, Status};
-use fields::Fields;
+use fields::{Fields, Keys};
 use std::io::{self, BufRead, Write};
 
 pub const SUBCOMMAND: Subcommand = Subcommand {
@@ -21,6 +21,8 @@ is a tool's name and fields KEY=VALUE, each once and in any order, apart by one 
 and stand apart by commas, with - at the end for left-over bytes; a figure is its digits, e and its power (999500000e-12; zero is 0e0).
 
   report budget=N words=WORDS             what the report program prints
+  report budget=N rows=N words=WORDS      the same where so many rows are lent, at most 100,000; then a line `row STATE LOWER UPPER` for each row
+                                          that was changed
   at-or-below figure=FIGURE limit=FIGURE  yes, no, or `no figure` where one of them is none
 
 A line that is no case is answered by `error: ` and what was expected, and the next line is read. Exit status: 0 when the input has ended, 2 where it
@@ -33,7 +35,7 @@ const TAKES: Takes = Takes { flags: &[], values: &[], files: &[] };
 /// A tool: its name, the keys of its fields, and its answer, without a newline behind the last line.
 struct Tool {
     name: &'static str,
-    keys: &'static [&'static str],
+    keys: Keys,
     answer: fn(&Fields) -> Result<String, String>,
 }
 
@@ -69,7 +71,7 @@ fn answer(line: &[u8]) -> Result<String, String> {
         let names: Vec<&str> = TOOLS.iter().map(|tool| tool.name).collect();
         format!("{} is no tool: expected {}", quoted(name), names.join(" or "))
     })?;
-    (tool.answer)(&Fields::parse(rest, tool.keys)?)
+    (tool.answer)(&Fields::parse(rest, &tool.keys)?)
 }
 
 #[cfg(test)]
@@ -100,6 +102,18 @@ mod tests {
     }
 
     #[test]
+    fn rows() {
+        let with = |lent: &str| CASE_A.replace(" words", &format!(" rows={lent} words"));
+        assert_eq!(answered(&with("0")), "refused 14 at 1");
+        let row = "row 2 9.99500000E-4 1.00000000E-3";
+        for lent in ["1", "2", "1000", "1001", "100000"] {
+            assert_eq!(answered(&with(lent)), format!("{REPORT_A}\n{row}"), "{lent}");
+        }
+        assert_eq!(answered("report rows=7 words= budget=7"), "refused 3 at 0");
+        assert_eq!(answered(&with("0").replace("1000000", "0")), "refused 2 at 0");
+    }
+
+    #[test]
     fn what_is_no_case() {
         for line in [
             "",
@@ -112,7 +126,14 @@ mod tests {
             "report budget=1 words= ",
             "report  budget=1 words=",
             "report budget=1 budget=1 words=",
-            "report budget=1 words= rows=3",
+            "report budget=1 words= rows=",
+            "report budget=1 words= rows=-1",
+            "report budget=1 words= rows=1 rows=1",
+            "report budget=1 words= rows=100001",
+            "report budget=1 words= rows=18446744073709551616",
+            "report budget=1 rows=1",
+            "report words= rows=1",
+            "at-or-below figure=0e0 limit=0e0 rows=1",
             "report budget= words=",
             "report budget=+1 words=",
             "report budget=1e6 words=",

@@ -7,6 +7,7 @@ use super::Subcommand;
 use crate::arguments::{Arguments, Takes};
 use crate::input::{Form, Model};
 use crate::progress::Progress;
+use crate::table::aligned;
 use crate::{Done, Failure, Status};
 use axis::{Axis, Point};
 use bounds::{Error, Refusal, Report};
@@ -105,7 +106,7 @@ fn answers(points: &[Point], budget: u64) -> Result<Vec<Answer>, Failure> {
     points.iter().enumerate().map(answer).collect()
 }
 
-/// Columns apart by two spaces.
+/// A row for each point.
 fn table(axis: &Axis, points: &[Point], answers: &[Answer]) -> String {
     let head = [
         axis.name(),
@@ -128,15 +129,5 @@ fn table(axis: &Axis, points: &[Point], answers: &[Answer]) -> String {
         }
         rows.push(row);
     }
-    let wide = |at: usize| {
-        let full = rows.iter().filter(|row| row.len() == head.len() || at == 0);
-        full.map(|row| row[at].len()).max().unwrap_or(0)
-    };
-    let widths: Vec<usize> = (0..head.len()).map(wide).collect();
-    let line = |row: &Vec<String>| {
-        let cells: Vec<String> =
-            row.iter().zip(&widths).map(|(cell, width)| format!("{cell:<width$}")).collect();
-        format!("{}\n", cells.join("  ").trim_end())
-    };
-    rows.iter().map(line).collect()
+    aligned(&rows)
 }
