@@ -8,9 +8,9 @@ In a cell of the trace's and the glossary's tables and in an item of the claims 
 answer otherwise", what stands in backticks is a file (it has a slash and a suffix, or ends in stdin or stdout) or a name, which belongs to the file before it
 in that cell or item. Of all else in the claims and the
 architecture only files are looked at, but for those with a word such as NAME in their path. Files are below crates/ or else below the repository's root.
-In the trace's column of vectors a name without a file is a model of reference/tests/data/models.txt or papers.txt, and one letter is one of document
-01's models A to L, as the list in crates/tree/specs/Marked.antt has it. A cell that holds only a dash is empty. Ends with 0 if nothing is wrong, else
-with 1.
+In the trace's column of vectors a name without a file is a model of reference/tests/data/models.txt, papers.txt or rows.txt, and one letter is one of
+document 01's models A to L, as the list in crates/tree/specs/Marked.antt has it. A cell that holds only a dash is empty. Ends with 0 if nothing is wrong,
+else with 1.
 """
 import re
 import sys
@@ -19,7 +19,7 @@ from pathlib import Path
 ROOT = Path(__file__).resolve().parent.parent
 TRACE, CLAIMS, GLOSSARY, ARCHITECTURE = "docs/TRACE.md", "docs/CLAIMS.md", "docs/GLOSSARY.md", "docs/ARCHITECTURE.md"
 ITEMS = ("- Says so:", "- Refused edits:", "- A model that would answer otherwise:", "- Models that would answer otherwise:")
-MODELS = ["reference/tests/data/models.txt", "reference/tests/data/papers.txt"]
+MODELS = ["reference/tests/data/models.txt", "reference/tests/data/papers.txt", "reference/tests/data/rows.txt"]
 MARKED = "tree/specs/Marked.antt"
 EMPTY = "—"
 FILE = re.compile(r"[\w+.-]+(/[\w+.-]+)*/([\w+.-]+\.\w+|stdin|stdout)")

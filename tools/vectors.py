@@ -1,10 +1,12 @@
 """Makes the input, the expected output and the table of the papers' models of the program `vectors` from models of other hands.
 
-    python3 tools/vectors.py MODELS.jsonl PAPERS.jsonl crates/vectors
+    python3 tools/vectors.py MODELS PAPERS.jsonl crates/vectors
 
-A line of either file is {"name": text, "words": [hexadecimal, ..], "budget": number, "expect": text, ..}. A word "-", only ever the last, stands
+A line of a file .jsonl is {"name": text, "words": [hexadecimal, ..], "budget": number, "expect": text, ..}. A word "-", only ever the last, stands
 for left-over bytes: one byte is written for it. A line of the papers has besides "source", where the model stands; "printed", what the paper
-prints of SURE's run; and "approximated", the quantities that had to be rounded to six digits.
+prints of SURE's run; and "approximated", the quantities that had to be rounded to six digits. MODELS can also be a file as the independent
+implementation keeps them, reference/tests/data/models.txt: name, budget, words of eight digits (`-` at the end for left-over bytes, `.` for
+none) and the answer, with `|` for line ends and `=` for spaces.
 
 The input is one model after the other: three numbers of four bytes, least significant first (the number of bytes of the name's line, the number of
 bytes of the words, the budget), then the name's line, then the words, four bytes each, least significant first. The output is for each model
@@ -17,9 +19,18 @@ import sys
 MARK = "<!-- below this line: tools/vectors.py -->\n"
 
 
+def model_of(line):
+    if line.startswith("{"):
+        return json.loads(line)
+    name, budget, digits, answer = line.split()
+    whole = digits.strip(".-")
+    words = [whole[at : at + 8] for at in range(0, len(whole), 8)] + (["-"] if digits.endswith("-") else [])
+    return {"name": name, "words": words, "budget": int(budget), "expect": answer.replace("|", "\n").replace("=", " ") + "\n"}
+
+
 def models_of(path):
     with open(path, encoding="utf-8") as f:
-        return [json.loads(line) for line in f if line.strip()]
+        return [model_of(line) for line in f if line.strip()]
 
 
 def number(n):

@@ -29,12 +29,15 @@ fn proved(words: &[u32]) -> String {
     }
 }
 
+fn figure(of: plain::Figure) -> String {
+    match bounds::Figure::new(of.digits, of.power) {
+        Some(figure) => figure.to_string(),
+        None => format!("{} and {}, which are no figure", of.digits, of.power),
+    }
+}
+
 /// The plain program's answer, as the report program prints it.
 fn shown(answer: Result<plain::Report, plain::Refusal>) -> String {
-    let figure = |f: plain::Figure| match bounds::Figure::new(f.digits, f.power) {
-        Some(figure) => figure.to_string(),
-        None => format!("{} and {}, which are no figure", f.digits, f.power),
-    };
     match answer {
         Ok(r) => format!(
             "lower {}\nupper {}\ncut {}\ndeaths {}\ncuts {}\nsteps {}",

@@ -1,14 +1,16 @@
-//! Demand 3, the accuracy rule, checked on one report.
+//! Demand 3, the accuracy rule, checked on one report and on each of its rows.
 
 use crate::answer::Report;
-use crate::exact::{exact_sums, ExactSums};
+use crate::exact::{exact_tree, ExactSums};
+use crate::figure::Figure;
 use crate::fraction::Fraction;
 use crate::model::Model;
+use crate::rows::Row;
 use std::fmt;
 
 /// The parts of the accuracy rule.
 #[derive(Clone, Copy, Debug, PartialEq, Eq)]
-pub enum Breach {
+pub enum Part {
     UpperBelowSum,
     UpperTooHigh,
     LowerAboveSum,
@@ -17,41 +19,57 @@ pub enum Breach {
     TreeIsLarger,
 }
 
+/// The part that is broken, and the state of the row where it is a row's.
+#[derive(Clone, Copy, Debug, PartialEq, Eq)]
+pub struct Breach {
+    pub part: Part,
+    pub row: Option<u64>,
+}
+
 impl fmt::Display for Breach {
     fn fmt(&self, out: &mut fmt::Formatter<'_>) -> fmt::Result {
-        out.write_str(match self {
-            Breach::UpperBelowSum => "the upper figure is below the exact upper sum",
-            Breach::UpperTooHigh => "the upper figure is above the exact sum × 100,001 / 100,000",
-            Breach::LowerAboveSum => "the lower figure is above the exact lower sum",
-            Breach::LowerTooLow => "the lower figure is below what the accuracy rule allows",
-            Breach::TreeIsLarger => "the cut tree has more steps than the report says",
+        if let Some(state) = self.row {
+            write!(out, "in the row of state {state} ")?;
+        }
+        out.write_str(match self.part {
+            Part::UpperBelowSum => "the upper figure is below the exact upper sum",
+            Part::UpperTooHigh => "the upper figure is above the exact sum × 100,001 / 100,000",
+            Part::LowerAboveSum => "the lower figure is above the exact lower sum",
+            Part::LowerTooLow => "the lower figure is below what the accuracy rule allows",
+            Part::TreeIsLarger => "the cut tree has more steps than the report says",
         })
     }
 }
 
-/// Checks the rule on the report of a model.
-pub fn check(model: &Model, report: &Report) -> Result<(), Breach> {
-    match exact_sums(model, report.counts.steps) {
-        Ok(sums) => check_sums(&sums, report),
-        Err(_) => Err(Breach::TreeIsLarger),
+/// Checks the rule on the report of a model and on each row.
+pub fn check(model: &Model, report: &Report, rows: &[Row]) -> Result<(), Breach> {
+    let whole = |part| Breach { part, row: None };
+    let Ok(tree) = exact_tree(model, report.counts.steps) else {
+        return Err(whole(Part::TreeIsLarger));
+    };
+    check_sums(&tree.whole, report.lower, report.upper).map_err(whole)?;
+    for row in rows {
+        let sums = tree.of_state(row.state as usize);
+        check_sums(&sums, row.lower, row.upper)
+            .map_err(|part| Breach { part, row: Some(row.state) })?;
     }
+    Ok(())
 }
 
 /// Checks the rule on figures, given the exact sums.
-pub fn check_sums(sums: &ExactSums, report: &Report) -> Result<(), Breach> {
-    let upper = Fraction::of_figure(report.upper);
-    let lower = Fraction::of_figure(report.lower);
+fn check_sums(sums: &ExactSums, lower: Figure, upper: Figure) -> Result<(), Part> {
+    let (lower, upper) = (Fraction::of_figure(lower), Fraction::of_figure(upper));
     if upper < sums.upper {
-        return Err(Breach::UpperBelowSum);
+        return Err(Part::UpperBelowSum);
     }
     if upper > sums.upper.times(&Fraction::decimal(100_001, -5)) {
-        return Err(Breach::UpperTooHigh);
+        return Err(Part::UpperTooHigh);
     }
     if lower > sums.lower {
-        return Err(Breach::LowerAboveSum);
+        return Err(Part::LowerAboveSum);
     }
     if lower < sums.lower.minus(&sums.deaths_upper.times(&Fraction::decimal(1, -4))) {
-        return Err(Breach::LowerTooLow);
+        return Err(Part::LowerTooLow);
     }
     Ok(())
 }

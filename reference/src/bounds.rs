@@ -1,24 +1,51 @@
-//! The lower figure of a death path, and the totals of a report.
+//! The lower figure of a death path, and the totals of a report and of its rows.
 
 use crate::answer::{Counts, Report};
 use crate::faults::{planted, Fault};
 use crate::figure::Side::{Down, Up};
 use crate::figure::{Figure, Total};
+use crate::model::Model;
+use crate::rows::Row;
 use crate::steps::{Class, Figures, GRAINS};
 use crate::walk::{End, Watcher};
+use std::collections::BTreeMap;
 
 /// The running totals, eighteen digits each.
 pub struct Totals<'a> {
+    model: &'a Model,
     figures: &'a Figures,
     lower: Total,
     death_upper: Total,
     cut_upper: Total,
+    /// For each state that has a row, the totals of its death paths.
+    rows: BTreeMap<usize, RowTotals>,
+}
+
+#[derive(Clone, Copy)]
+struct RowTotals {
+    lower: Total,
+    upper: Total,
+}
+
+impl RowTotals {
+    const ZERO: RowTotals = RowTotals { lower: Total::ZERO, upper: Total::ZERO };
+
+    fn add(&mut self, lower: Figure, upper: Figure) {
+        self.lower = self.lower.plus(lower.widened(), Down);
+        self.upper = self.upper.plus(upper.widened(), Up);
+        if planted(Fault::RowsOfNineDigits) {
+            self.lower = self.lower.narrowed(Down).widened(); // planted
+            self.upper = self.upper.narrowed(Up).widened(); // planted
+        }
+    }
 }
 
 impl<'a> Totals<'a> {
-    pub fn new(figures: &'a Figures) -> Totals<'a> {
+    /// Nothing yet; `states` are those that have a row.
+    pub fn new(model: &'a Model, figures: &'a Figures, states: &[usize]) -> Totals<'a> {
         let zero = Total::ZERO;
-        Totals { figures, lower: zero, death_upper: zero, cut_upper: zero }
+        let rows = states.iter().map(|&state| (state, RowTotals::ZERO)).collect();
+        Totals { model, figures, lower: zero, death_upper: zero, cut_upper: zero, rows }
     }
 
     pub fn report(&self, counts: Counts) -> Report {
@@ -29,16 +56,51 @@ impl<'a> Totals<'a> {
             counts,
         }
     }
+
+    /// The rows, in order of state number.
+    pub fn rows(&self) -> Vec<Row> {
+        let row = |(&state, totals): (&usize, &RowTotals)| {
+            let mut row = Row {
+                state: state as u64,
+                lower: totals.lower.narrowed(Down),
+                upper: totals.upper.narrowed(Up),
+            };
+            if planted(Fault::RowLowerRoundsUp) {
+                row.lower = totals.lower.narrowed(Up); // planted
+            }
+            if planted(Fault::RowUpperWithCuts) {
+                row.upper = totals.upper.plus(self.cut_upper, Up).narrowed(Up); // planted
+            }
+            row
+        };
+        self.rows.iter().map(row).collect()
+    }
+
+    /// Sets every row back to zeros.
+    pub fn clear_rows(&mut self) {
+        self.rows.values_mut().for_each(|totals| *totals = RowTotals::ZERO);
+    }
+
+    /// The first transition that leads to a state; only a planted fault asks.
+    pub fn first_entry(&self, state: u64) -> Option<usize> {
+        self.model.transitions.iter().position(|transition| transition.to as u64 == state)
+    }
+
+    fn add_death(&mut self, path: &[usize], upper: Figure) {
+        let lower = lower_of(path, self.figures);
+        self.death_upper = self.death_upper.plus(upper.widened(), Up);
+        self.lower = self.lower.plus(lower.widened(), Down);
+        let state = path.last().map(|&exit| self.model.transitions[exit].to);
+        if let Some(totals) = state.and_then(|state| self.rows.get_mut(&state)) {
+            totals.add(lower, upper);
+        }
+    }
 }
 
 impl Watcher for Totals<'_> {
     fn ended(&mut self, end: End, path: &[usize], upper: Figure) {
         match end {
-            End::Death => {
-                self.death_upper = self.death_upper.plus(upper.widened(), Up);
-                let lower = lower_of(path, self.figures);
-                self.lower = self.lower.plus(lower.widened(), Down);
-            }
+            End::Death => self.add_death(path, upper),
             End::Cut => self.cut_upper = self.cut_upper.plus(upper.widened(), Up),
         }
         if planted(Fault::TotalsOfNineDigits) {

@@ -5,8 +5,10 @@ use crate::fraction::{Fraction, Sum};
 use crate::model::{Law, Model, Quantity, Refusal};
 use crate::steps::{Class, Figures, GRAINS};
 use crate::walk::{walk, End, Watcher};
+use std::collections::BTreeMap;
 
 /// The three exact sums of document 01.
+#[derive(Clone)]
 pub struct ExactSums {
     /// Over deaths and cuts.
     pub upper: Fraction,
@@ -16,14 +18,43 @@ pub struct ExactSums {
     pub deaths_upper: Fraction,
 }
 
+impl ExactSums {
+    /// The sums over death paths alone.
+    fn of_deaths(lower: Fraction, upper: Fraction) -> ExactSums {
+        ExactSums { lower, deaths_upper: upper.clone(), upper }
+    }
+}
+
+/// The exact sums over the whole cut tree, and over the death paths of each state alone.
+pub struct ExactTree {
+    pub whole: ExactSums,
+    states: BTreeMap<usize, ExactSums>,
+}
+
+impl ExactTree {
+    /// The sums over the death paths that end in a state; over no path they are 0.
+    pub fn of_state(&self, state: usize) -> ExactSums {
+        let zero = Fraction::zero;
+        self.states.get(&state).cloned().unwrap_or(ExactSums::of_deaths(zero(), zero()))
+    }
+}
+
 /// The exact sums over the cut tree of a model, or refusal 13.
-pub fn exact_sums(model: &Model, budget: u64) -> Result<ExactSums, Refusal> {
+pub fn exact_tree(model: &Model, budget: u64) -> Result<ExactTree, Refusal> {
     let figures = Figures::of(model);
     let mut watcher = ExactWatcher::of(model, &figures);
     walk(model, &figures, budget, &mut watcher)?;
-    let deaths_upper = watcher.deaths_upper.total();
-    let upper = deaths_upper.plus(&watcher.cuts_upper.total());
-    Ok(ExactSums { upper, lower: watcher.lower.total(), deaths_upper })
+    let (mut lower, mut upper) = (Sum::default(), Sum::default());
+    let mut states = BTreeMap::new();
+    for (&state, deaths) in &watcher.deaths {
+        let sums = ExactSums::of_deaths(deaths.lower.total(), deaths.upper.total());
+        lower.add(sums.lower.clone());
+        upper.add(sums.upper.clone());
+        states.insert(state, sums);
+    }
+    let mut whole = ExactSums::of_deaths(lower.total(), upper.total());
+    whole.upper = whole.upper.plus(&watcher.cuts_upper.total());
+    Ok(ExactTree { whole, states })
 }
 
 /// What a step contributes to the exact bounds of the paths it stands in.
@@ -103,12 +134,20 @@ impl ExactStep {
     }
 }
 
+/// The sums over the death paths of one state.
+#[derive(Default)]
+struct DeathSums {
+    upper: Sum,
+    lower: Sum,
+}
+
 struct ExactWatcher {
     time: Quantity,
+    /// Where each transition leads.
+    targets: Vec<usize>,
     steps: Vec<ExactStep>,
-    deaths_upper: Sum,
+    deaths: BTreeMap<usize, DeathSums>,
     cuts_upper: Sum,
-    lower: Sum,
 }
 
 impl ExactWatcher {
@@ -119,8 +158,9 @@ impl ExactWatcher {
             ExactStep::of(model, exit, figures, &states[transition.from])
         };
         let steps = model.transitions.iter().enumerate().map(step).collect();
-        let (deaths_upper, cuts_upper, lower) = Default::default();
-        ExactWatcher { time: model.time, steps, deaths_upper, cuts_upper, lower }
+        let targets = model.transitions.iter().map(|transition| transition.to).collect();
+        let (deaths, cuts_upper) = Default::default();
+        ExactWatcher { time: model.time, targets, steps, deaths, cuts_upper }
     }
 
     fn class_ones(&self, path: &[usize]) -> u32 {
@@ -172,12 +212,14 @@ fn over_factorial(value: Fraction, k: u32) -> Fraction {
 impl Watcher for ExactWatcher {
     fn ended(&mut self, end: End, path: &[usize], _upper: Figure) {
         let upper = self.upper_of(path);
-        match end {
-            End::Cut => self.cuts_upper.add(upper),
-            End::Death => {
-                self.deaths_upper.add(upper);
-                self.lower.add(self.lower_of(path));
+        match (end, path.last()) {
+            (End::Death, Some(&last)) => {
+                let lower = self.lower_of(path);
+                let sums = self.deaths.entry(self.targets[last]).or_default();
+                sums.upper.add(upper);
+                sums.lower.add(lower);
             }
+            _ => self.cuts_upper.add(upper),
         }
     }
 }

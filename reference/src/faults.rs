@@ -35,10 +35,22 @@ pub enum Fault {
     BitAfterStates,
     TransitionTooMany,
     WordTooFew,
+    RowForNoTarget,
+    UnreachedRowsLeftOut,
+    RowsInTableOrder,
+    RowTooFew,
+    PlaceOfRowsLent,
+    RowsTestedLast,
+    RowTotalsOnThirteen,
+    NoRowsOnThirteen,
+    RowsBeyondCleared,
+    RowUpperWithCuts,
+    RowLowerRoundsUp,
+    RowsOfNineDigits,
 }
 
 /// Every fault with its name and what it does.
-pub const ALL: [(Fault, &str, &str); 29] = [
+pub const ALL: [(Fault, &str, &str); 41] = [
     (Fault::UpperRoundsDown, "upper-rounds-down", "U × rate rounds down in class 1"),
     (Fault::EscapeRoundsDown, "escape-rounds-down", "the sum E rounds down"),
     (Fault::LowerRoundsUp, "lower-rounds-up", "the last product of a lower rounds up"),
@@ -76,6 +88,18 @@ pub const ALL: [(Fault, &str, &str); 29] = [
     (Fault::BitAfterStates, "bit-after-states", "refusal 4 of a transition comes after 6 to 9"),
     (Fault::TransitionTooMany, "transition-too-many", "a 4,001st transition is let through"),
     (Fault::WordTooFew, "word-too-few", "16,005 words are refused as too many"),
+    (Fault::RowForNoTarget, "row-for-no-target", "a state to which nothing leads has a row"),
+    (Fault::UnreachedRowsLeftOut, "unreached-left-out", "no row for a state never reached"),
+    (Fault::RowsInTableOrder, "rows-in-table-order", "rows in the order of the transitions"),
+    (Fault::RowTooFew, "row-too-few", "14 when there are just as many rows as needed"),
+    (Fault::PlaceOfRowsLent, "place-of-rows-lent", "the place of 14 is the number of rows lent"),
+    (Fault::RowsTestedLast, "rows-tested-last", "14 comes after the walk"),
+    (Fault::RowTotalsOnThirteen, "row-totals-on-13", "on 13 rows hold the totals so far"),
+    (Fault::NoRowsOnThirteen, "no-rows-on-13", "13 changes no row"),
+    (Fault::RowsBeyondCleared, "rows-beyond-cleared", "rows beyond the filled ones become zeros"),
+    (Fault::RowUpperWithCuts, "row-upper-with-cuts", "a row's upper holds the cut paths' part too"),
+    (Fault::RowLowerRoundsUp, "row-lower-rounds-up", "a row's lower goes to nine digits upward"),
+    (Fault::RowsOfNineDigits, "rows-of-nine-digits", "the totals of rows keep nine digits"),
 ];
 
 thread_local! {

@@ -1,6 +1,7 @@
 //! Semi-Markov unreliability bounds from a word table: an independent implementation.
 //!
-//! It was written from document 01 alone and shares no code and no tables with the proved library.
+//! It was written from documents 01 and 02 alone and shares no code and no tables with the proved
+//! library.
 //! Names in quotes or single capitals (U, E, M, h, H, T, L, V) are those of document 01.
 //!
 //! - [`words`]: words to a model, refusals 1 to 11
@@ -8,6 +9,7 @@
 //! - [`steps`]: the figures that belong to a state or to a transition (E, h, H, grains, factors)
 //! - [`walk`]: the cut tree, refusal 13
 //! - [`bounds`]: the lower figure of a path and the totals
+//! - [`rows`]: a row for each way to fail, refusal 14
 //! - [`bigint`], [`fraction`], [`exact`], [`accuracy`]: exact sums and the accuracy rule
 //! - [`faults`]: faults that can be planted on purpose, to try the comparer on
 
@@ -20,6 +22,7 @@ pub mod faults;
 pub mod figure;
 pub mod fraction;
 pub mod model;
+pub mod rows;
 pub mod steps;
 pub mod stream;
 pub mod walk;
@@ -27,26 +30,55 @@ pub mod words;
 
 pub use answer::{Answer, Report};
 pub use model::{Model, Refusal};
+pub use rows::Row;
+
+use faults::{planted, Fault};
 
 /// The budget of the report program, and the greatest one allowed.
 pub const MOST_STEPS: u64 = 1_000_000;
 
-/// The report on the words, or the first reason to turn them away.
+/// The rows that the report program lends.
+pub const ROWS_LENT: usize = 1_000;
+
+/// The report on the words, or the first reason to turn them away, as the report program has it.
 pub fn assess(words: &[u32], budget: u64) -> Answer {
+    assess_rows(words, budget, &mut [Row::ZERO; ROWS_LENT])
+}
+
+/// The same with a table of rows, lent by the caller. A refusal but 13 changes none of them.
+pub fn assess_rows(words: &[u32], budget: u64, rows: &mut [Row]) -> Answer {
     match words::read(words, budget) {
-        Ok(model) => report(&model, budget),
+        Ok(model) => report(&model, budget, rows),
         Err(refusal) => Answer::Refused(refusal),
     }
 }
 
-/// The report on a model that has been read, or refusal 13.
-pub fn report(model: &Model, budget: u64) -> Answer {
-    let figures = steps::Figures::of(model);
-    let mut totals = bounds::Totals::new(&figures);
-    match walk::walk(model, &figures, budget, &mut totals) {
-        Ok(counts) => Answer::Report(totals.report(counts)),
+/// The report on a model that has been read, or refusal 14 or 13.
+pub fn report(model: &Model, budget: u64, rows: &mut [Row]) -> Answer {
+    match reported(model, budget, rows) {
+        Ok(report) => Answer::Report(report),
         Err(refusal) => Answer::Refused(refusal),
     }
+}
+
+fn reported(model: &Model, budget: u64, rows: &mut [Row]) -> Result<Report, Refusal> {
+    let states = rows::states_of(model);
+    let enough = rows::enough(rows.len(), states.len());
+    if !planted(Fault::RowsTestedLast) {
+        enough?;
+    }
+    let figures = steps::Figures::of(model);
+    let mut totals = bounds::Totals::new(model, &figures, &states);
+    let walked = walk::walk(model, &figures, budget, &mut totals);
+    if walked.is_err() && !planted(Fault::RowTotalsOnThirteen) {
+        totals.clear_rows();
+    }
+    if walked.is_ok() || !planted(Fault::NoRowsOnThirteen) {
+        rows::fill(rows, &totals);
+    }
+    let counts = walked?;
+    enough?;
+    Ok(totals.report(counts))
 }
 
 /// The words of a stream of bytes, least significant byte first.

@@ -1,10 +1,10 @@
 //! The accuracy rule, on the models with expected answers and on reports that were tampered with.
 
-use reference::accuracy::{check, Breach};
+use reference::accuracy::{check, Breach, Part};
 use reference::figure::Figure;
 use reference::figure::Side::{Down, Up};
 use reference::steps::Figures;
-use reference::{report, words, Answer, Model, Report, MOST_STEPS};
+use reference::{report, rows, words, Answer, Model, Report, Row, MOST_STEPS, ROWS_LENT};
 
 /// Model B of document 01.
 const MODEL_B: [u32; 15] = [
@@ -29,11 +29,17 @@ fn model_of(list: &[u32]) -> Model {
     words::read(list, MOST_STEPS).expect("a model that is accepted")
 }
 
-fn report_of(model: &Model) -> Report {
-    match report(model, MOST_STEPS) {
-        Answer::Report(report) => report,
+/// The report and the rows that it fills.
+fn report_of(model: &Model) -> (Report, Vec<Row>) {
+    let mut rows = vec![Row::ZERO; rows::states_of(model).len()];
+    match report(model, MOST_STEPS, &mut rows) {
+        Answer::Report(report) => (report, rows),
         Answer::Refused(refusal) => panic!("{refusal}"),
     }
+}
+
+fn broken(part: Part, row: Option<u64>) -> Result<(), Breach> {
+    Err(Breach { part, row })
 }
 
 #[test]
@@ -42,44 +48,74 @@ fn model_b() {
     let figures = Figures::of(&model);
     assert_eq!(figures.steps[1].grains, 4_473);
     assert_eq!(figures.steps[2].grains, 737);
-    let found = report_of(&model);
+    let (found, rows) = report_of(&model);
     assert_eq!(found.upper.to_string(), "1.50006000E-6");
     assert_eq!((found.counts.deaths, found.counts.cuts, found.counts.steps), (2, 0, 4));
-    assert_eq!(check(&model, &found), Ok(()));
+    assert_eq!(rows.iter().map(|row| row.state).collect::<Vec<_>>(), [3, 5]);
+    assert_eq!(check(&model, &found, &rows), Ok(()));
 }
 
 #[test]
 fn wrong_reports_are_noticed() {
     let model = model_of(&MODEL_B);
-    let right = report_of(&model);
+    let (right, _) = report_of(&model);
     let tiny = Figure::ONE.shifted(-14);
     let mut wrong = right;
     wrong.upper = right.upper.minus(tiny, Down);
-    assert_eq!(check(&model, &wrong), Err(Breach::UpperBelowSum));
+    assert_eq!(check(&model, &wrong, &[]), broken(Part::UpperBelowSum, None));
     wrong.upper = right.upper.plus(tiny.shifted(4), Up);
-    assert_eq!(check(&model, &wrong), Err(Breach::UpperTooHigh));
+    assert_eq!(check(&model, &wrong, &[]), broken(Part::UpperTooHigh, None));
     let mut wrong = right;
     wrong.lower = right.lower.plus(tiny.shifted(2), Up);
-    assert_eq!(check(&model, &wrong), Err(Breach::LowerAboveSum));
+    assert_eq!(check(&model, &wrong, &[]), broken(Part::LowerAboveSum, None));
     wrong.lower = right.lower.minus(tiny.shifted(5), Down);
-    assert_eq!(check(&model, &wrong), Err(Breach::LowerTooLow));
+    assert_eq!(check(&model, &wrong, &[]), broken(Part::LowerTooLow, None));
     let mut wrong = right;
     wrong.counts.steps -= 1;
-    assert_eq!(check(&model, &wrong), Err(Breach::TreeIsLarger));
+    assert_eq!(check(&model, &wrong, &[]), broken(Part::TreeIsLarger, None));
+}
+
+#[test]
+fn wrong_rows_are_noticed() {
+    let model = model_of(&MODEL_B);
+    let (report, right) = report_of(&model);
+    let (thousandth, thrice) = (Figure::ONE.shifted(-3), Figure::small(3));
+    let check_row = |place: usize, change: fn(&mut Row, Figure), by: Figure| {
+        let mut rows = right.clone();
+        change(&mut rows[place], by);
+        check(&model, &report, &rows)
+    };
+    for (place, state) in [(0, 3), (1, 5)] {
+        let upper: fn(&mut Row, Figure) = |row, by| row.upper = row.upper.times(by, Down);
+        let lower: fn(&mut Row, Figure) = |row, by| row.lower = row.lower.times(by, Down);
+        let less = Figure::ONE.minus(thousandth, Down);
+        assert_eq!(check_row(place, upper, less), broken(Part::UpperBelowSum, Some(state)));
+        assert_eq!(check_row(place, upper, thrice), broken(Part::UpperTooHigh, Some(state)));
+        assert_eq!(check_row(place, lower, thrice), broken(Part::LowerAboveSum, Some(state)));
+        assert_eq!(check_row(place, lower, less), broken(Part::LowerTooLow, Some(state)));
+    }
+    // A row of a state where no path dies has zeros and nothing else.
+    let lower = Figure::ZERO;
+    let row = |upper| [Row { state: 4, lower, upper }];
+    assert_eq!(check(&model, &report, &row(Figure::ZERO)), Ok(()));
+    let tiny = row(Figure::ONE.shifted(-99));
+    assert_eq!(check(&model, &report, &tiny), broken(Part::UpperTooHigh, Some(4)));
 }
 
 /// The reported models of a file in `tests/data` with at most so many ended paths.
 fn check_data(text: &str, most_paths: u64) -> usize {
     let mut checked = 0;
     for line in text.lines() {
-        let digits = line.split(' ').nth(2).unwrap_or_default();
+        let digits = line.rsplit(' ').nth(1).unwrap_or_default();
         let list: Vec<u32> = (0..digits.len() / 8)
             .filter_map(|place| u32::from_str_radix(&digits[8 * place..8 * place + 8], 16).ok())
             .collect();
         let Ok(model) = words::read(&list, MOST_STEPS) else { continue };
-        let Answer::Report(report) = report(&model, MOST_STEPS) else { continue };
+        let mut table = [Row::ZERO; ROWS_LENT];
+        let Answer::Report(report) = report(&model, MOST_STEPS, &mut table) else { continue };
+        let filled = rows::states_of(&model).len();
         if report.counts.deaths + report.counts.cuts <= most_paths {
-            assert_eq!(check(&model, &report), Ok(()), "{line}");
+            assert_eq!(check(&model, &report, &table[..filled]), Ok(()), "{line}");
             checked += 1;
         }
     }
@@ -90,4 +126,5 @@ fn check_data(text: &str, most_paths: u64) -> usize {
 fn models_with_expected_answers() {
     assert!(check_data(include_str!("data/models.txt"), 4_000) > 150);
     assert!(check_data(include_str!("data/papers.txt"), 4_000) > 50);
+    assert!(check_data(include_str!("data/rows.txt"), 4_000) > 30);
 }

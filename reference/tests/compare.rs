@@ -17,9 +17,14 @@ fn agrees_with_itself_and_meets_every_answer() {
     assert!(output.status.success(), "{text}");
     let all = text.lines().find(|line| line.starts_with("all ")).unwrap_or_default();
     let counts: Vec<u64> = all.split_whitespace().filter_map(|part| part.parse().ok()).collect();
-    assert_eq!(counts.len(), 14, "{text}");
+    assert_eq!(counts.len(), 15, "{text}");
     assert!(counts.iter().all(|&count| count > 0), "{text}");
     assert_eq!(counts[0], 6_000);
+    for line in ["rows filled: ", "rows of zeros on refusal 13: ", "rows left as they were: "] {
+        let of = text.lines().find(|other| other.starts_with(line)).unwrap_or_default();
+        let counts: Vec<u64> = of.split_whitespace().filter_map(|part| part.parse().ok()).collect();
+        assert!(!counts.is_empty() && counts.iter().all(|&count| count > 100), "{text}");
+    }
 }
 
 #[test]

@@ -1,10 +1,13 @@
 //! Every model with an expected answer, in `tests/data` and in the files named by the variable
-//! VECTORS (paths separated by ':', one JSON object a line with name, words, budget and expect).
+//! VECTORS (paths separated by ':', one JSON object a line with name, words, budget and expect, and
+//! maybe rows).
 //!
-//! A line of `tests/data`: name, budget, words (eight hexadecimal digits each; `-` at the end
-//! stands for left-over bytes; `.` for no words) and the answer, with `|` for line ends and `=` for
-//! spaces.
+//! A line of `tests/data`: name, budget, in `rows.txt` the number of rows lent, words (eight
+//! hexadecimal digits each; `-` at the end stands for left-over bytes; `.` for no words) and the
+//! answer, with `|` for line ends and `=` for spaces. Where rows are lent, a line `row STATE LOWER
+//! UPPER` follows for each that is filled; the rows behind them stay as they were.
 
+use reference::stream::{self, Record};
 use reference::{assess, words_of_bytes};
 use std::error::Error;
 use std::path::{Path, PathBuf};
@@ -12,8 +15,21 @@ use std::path::{Path, PathBuf};
 struct Vector {
     name: String,
     budget: u64,
+    rows: Option<u32>,
     bytes: Vec<u8>,
     expected: String,
+}
+
+impl Vector {
+    /// What this implementation answers.
+    fn answer(&self) -> String {
+        let (budget, words) = (self.budget, words_of_bytes(&self.bytes));
+        let Some(rows) = self.rows else {
+            return assess(&words, budget).to_string();
+        };
+        let (answer, filled) = stream::answer(&Record { budget, rows, words });
+        stream::text(&answer, &filled)
+    }
 }
 
 /// The bytes of hexadecimal words; anything but digits and a final `-` is passed over.
@@ -32,12 +48,15 @@ fn bytes_of(words: &str) -> Result<Vec<u8>, Box<dyn Error>> {
 
 fn compact(line: &str) -> Result<Vector, Box<dyn Error>> {
     let parts: Vec<&str> = line.split(' ').collect();
-    let [name, budget, words, expected] = parts[..] else {
-        return Err("a line that isn't four parts".into());
+    let (name, budget, rows, words, expected) = match parts[..] {
+        [name, budget, words, expected] => (name, budget, None, words, expected),
+        [name, budget, rows, words, expected] => (name, budget, Some(rows), words, expected),
+        _ => return Err("a line that isn't four or five parts".into()),
     };
     Ok(Vector {
         name: name.to_string(),
         budget: budget.parse()?,
+        rows: rows.map(str::parse).transpose()?,
         bytes: bytes_of(words)?,
         expected: expected.replace('|', "\n").replace('=', " ") + "\n",
     })
@@ -51,11 +70,21 @@ fn between<'a>(line: &'a str, open: &str, close: &str) -> Result<&'a str, Box<dy
 }
 
 fn json(line: &str) -> Result<Vector, Box<dyn Error>> {
+    let rows = between(line, "\"rows\": ", ",").ok().map(str::parse).transpose()?;
+    let mark = if rows.is_some() { "\"text\": \"" } else { "\"expect\": \"" };
+    let mut expected = between(line, mark, "\"")?.replace("\\n", "\n");
+    if rows.is_some() {
+        for row in between(line, "\"filled\": [", "]}")?.split_terminator(']') {
+            let row = row.trim_start_matches([',', ' ', '[']).replace(['"', ','], "");
+            expected += &format!("row {row}\n");
+        }
+    }
     Ok(Vector {
         name: between(line, "\"name\": \"", "\"")?.to_string(),
         budget: between(line, "\"budget\": ", ",")?.parse()?,
+        rows,
         bytes: bytes_of(between(line, "\"words\": [", "]")?)?,
-        expected: between(line, "\"expect\": \"", "\"")?.replace("\\n", "\n"),
+        expected,
     })
 }
 
@@ -65,8 +94,7 @@ fn check_file(path: &Path) -> Result<usize, Box<dyn Error>> {
     for (number, line) in text.lines().enumerate() {
         let read = if line.starts_with('{') { json(line) } else { compact(line) };
         let vector = read.map_err(|error| format!("{}:{}: {error}", path.display(), number + 1))?;
-        let answer = assess(&words_of_bytes(&vector.bytes), vector.budget);
-        assert_eq!(answer.to_string(), vector.expected, "{}", vector.name);
+        assert_eq!(vector.answer(), vector.expected, "{}", vector.name);
     }
     Ok(text.lines().count())
 }
@@ -74,8 +102,9 @@ fn check_file(path: &Path) -> Result<usize, Box<dyn Error>> {
 #[test]
 fn expected_answers() -> Result<(), Box<dyn Error>> {
     let data = Path::new(env!("CARGO_MANIFEST_DIR")).join("tests/data");
-    assert_eq!(check_file(&data.join("models.txt"))?, 367);
+    assert_eq!(check_file(&data.join("models.txt"))?, 417);
     assert_eq!(check_file(&data.join("papers.txt"))?, 98);
+    assert_eq!(check_file(&data.join("rows.txt"))?, 60);
     if let Some(paths) = std::env::var_os("VECTORS") {
         for path in std::env::split_paths(&paths).filter(|path| *path != PathBuf::new()) {
             println!("{}: {} models agree", path.display(), check_file(&path)?);

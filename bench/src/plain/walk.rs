@@ -3,11 +3,11 @@
 use super::figure::{Figure, DOWN, UP};
 use super::tables::{Step, Tables};
 use super::words::Model;
-use super::{Refusal, Report};
+use super::{Refusal, Report, Row};
 
 const GRAINS: u64 = 1_000_000;
 
-struct Walk<'a> {
+pub struct Walk<'a> {
     model: &'a Model,
     tables: &'a Tables,
     budget: u64,
@@ -19,6 +19,8 @@ struct Walk<'a> {
     deaths: u64,
     cuts: u64,
     steps: u64,
+    /// The lower and the upper total of the deaths in each state.
+    rows: [(Figure, Figure); 1001],
 }
 
 /// What the deaths share that leave one state by a slow exit: none where the grains fill the mission time.
@@ -31,36 +33,51 @@ struct SharedFactors {
     last: Figure,
 }
 
-pub fn walk(model: &Model, tables: &Tables, budget: u64) -> Result<Report, Refusal> {
-    let zero = Figure::ZERO;
-    let mut walk = Walk {
-        model,
-        tables,
-        budget,
-        entered: [0; 1001],
-        path: [0; 24],
-        lower: zero,
-        died: zero,
-        cut: zero,
-        deaths: 0,
-        cuts: 0,
-        steps: 0,
-    };
-    walk.entered[model.start] = 1;
-    if !walk.every_exit(model.start, Figure::ONE, 0, 0) {
-        return Err(Refusal { number: 13, place: 0 });
+impl<'a> Walk<'a> {
+    pub fn new(model: &'a Model, tables: &'a Tables, budget: u64) -> Walk<'a> {
+        let zero = Figure::ZERO;
+        Walk {
+            model,
+            tables,
+            budget,
+            entered: [0; 1001],
+            path: [0; 24],
+            lower: zero,
+            died: zero,
+            cut: zero,
+            deaths: 0,
+            cuts: 0,
+            steps: 0,
+            rows: [(zero, zero); 1001],
+        }
     }
-    Ok(Report {
-        lower: walk.lower.to_nine::<DOWN>(),
-        upper: walk.died.sum_to_nine(walk.cut),
-        cut: walk.cut.to_nine::<UP>(),
-        deaths: walk.deaths,
-        cuts: walk.cuts,
-        steps: walk.steps,
-    })
-}
 
-impl Walk<'_> {
+    pub fn report(&mut self) -> Result<Report, Refusal> {
+        let start = self.model.start;
+        self.entered[start] = 1;
+        if !self.every_exit(start, Figure::ONE, 0, 0) {
+            return Err(Refusal { number: 13, place: 0 });
+        }
+        Ok(Report {
+            lower: self.lower.to_nine::<DOWN>(),
+            upper: self.died.sum_to_nine(self.cut),
+            cut: self.cut.to_nine::<UP>(),
+            deaths: self.deaths,
+            cuts: self.cuts,
+            steps: self.steps,
+        })
+    }
+
+    /// The row of a state after the walk; zeros where there is no report.
+    pub fn row(&self, state: usize, reported: bool) -> Row {
+        let mut row = Row { state: state as u64, ..Row::default() };
+        if reported {
+            let (lower, upper) = self.rows[state];
+            (row.lower, row.upper) = (lower.to_nine::<DOWN>(), upper.to_nine::<UP>());
+        }
+        row
+    }
+
     /// Walks every exit of a state that a path of `len` steps has reached, `ones` of them of class 1; false where the budget is spent.
     fn every_exit(&mut self, state: usize, upper: Figure, ones: u64, len: usize) -> bool {
         let model = self.model;
@@ -79,6 +96,8 @@ impl Walk<'_> {
                 let lower = self.lower_of(&step, nth, ones, len, &mut shared);
                 self.lower = self.lower.total::<DOWN>(lower);
                 self.died = self.died.total::<UP>(upper);
+                let row = &mut self.rows[to];
+                *row = (row.0.total::<DOWN>(lower), row.1.total::<UP>(upper));
                 self.deaths += 1;
             } else if before >= model.entries
                 || len + 1 == model.steps

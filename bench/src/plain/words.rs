@@ -26,6 +26,17 @@ pub struct Model {
     pub exits: Vec<Vec<u16>>,
 }
 
+impl Model {
+    /// The states without exits to which a transition leads, in order.
+    pub fn dead(&self) -> impl Iterator<Item = usize> + '_ {
+        let mut target = [false; 1001];
+        for transition in &self.transitions {
+            target[transition.to as usize] = true;
+        }
+        (1..=self.states).filter(move |&state| target[state] && self.exits[state].is_empty())
+    }
+}
+
 struct Reader<'a> {
     words: &'a [u32],
     at: usize,

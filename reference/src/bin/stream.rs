@@ -1,7 +1,8 @@
-//! Answers records of models until the input ends: for each, the answer's text and an empty line.
+//! Answers records of models until the input ends: for each, the answer's text with its
+//! rows, and an empty line.
 //! `--fault NAME` plants a fault first, `--faults` lists them.
 
-use reference::{assess, faults, stream};
+use reference::{faults, stream};
 use std::io::{self, BufReader, BufWriter, Write};
 use std::process::ExitCode;
 
@@ -35,7 +36,8 @@ fn answer_all() -> io::Result<()> {
     let mut input = BufReader::new(io::stdin().lock());
     let mut output = BufWriter::new(io::stdout().lock());
     while let Some(record) = stream::read_record(&mut input)? {
-        writeln!(output, "{}", assess(&record.words, record.budget))?;
+        let (answer, rows) = stream::answer(&record);
+        writeln!(output, "{}", stream::text(&answer, &rows))?;
     }
     output.flush()
 }

@@ -7,17 +7,23 @@ use crate::quantities::{Taste, TASTES};
 use crate::random::Random;
 use crate::shapes::SHAPES;
 use reference::stream::Record;
-use reference::{assess, Answer, MOST_STEPS};
+use reference::{assess, rows, words, Answer, MOST_STEPS, ROWS_LENT};
 
 pub struct Case {
     pub kind: &'static str,
     pub record: Record,
 }
 
-type Maker = fn(&mut Random) -> Record;
+/// A model before the rows are lent.
+struct Asked {
+    budget: u64,
+    words: Vec<u32>,
+}
+
+type Maker = fn(&mut Random) -> Asked;
 
 /// How often each kind comes, in thousandths or so; the shapes share what is left.
-const KINDS: [(u64, &str, Maker); 14] = [
+const KINDS: [(u64, &str, Maker); 15] = [
     (120, "budget at, one below, one above", at_budget),
     (60, "quantities at both ends", |random| shaped(random, Some(Taste::Ends))),
     (80, "prune level at or near U", |random| usual(random, edges::prune_near_upper)),
@@ -32,23 +38,44 @@ const KINDS: [(u64, &str, Maker); 14] = [
     (10, "budget out of range", out_of_range_budget),
     (3, "4,000 transitions and one more", full_table),
     (1, "budget of 1,000,000", whole_budget),
+    (2, "hundreds of rows", |random| usual(random, edges::hundreds_of_rows)),
 ];
 
 const OUT_OF: u64 = 1_000;
 
-/// The model of a number, under a seed.
+/// The model of a number, under a seed, and how many rows are lent with it.
 pub fn case(seed: u64, number: u64) -> Case {
-    let mut random = Random::new(seed, number);
+    let (kind, Asked { budget, words }) = model(&mut Random::new(seed, number));
+    let rows = rows_lent(&mut Random::new(!seed, number), &words);
+    Case { kind, record: Record { budget, rows, words } }
+}
+
+fn model(random: &mut Random) -> (&'static str, Asked) {
     let mut draw = random.next() % OUT_OF;
     for (weight, kind, maker) in KINDS {
         if draw < weight {
-            return Case { kind, record: maker(&mut random) };
+            return (kind, maker(random));
         }
         draw -= weight;
     }
     let (kind, shape) = random.pick(&SHAPES);
     let taste = random.pick(&TASTES);
-    Case { kind, record: usual(&mut random, |random| shape(random, taste)) }
+    (kind, usual(random, |random| shape(random, taste)))
+}
+
+/// As many rows as the model needs, or about as many, or none, or those of the report program.
+fn rows_lent(random: &mut Random, list: &[u32]) -> u32 {
+    let needed = words::read(list, 1).map_or(2, |model| rows::states_of(&model).len());
+    let lent = match random.size(0, 15) {
+        0 => 0,
+        1 | 2 => needed.saturating_sub(1),
+        3..=6 => needed,
+        7 | 8 => needed + 1,
+        9 => random.size(0, needed + 3),
+        10 => random.size(0, ROWS_LENT + 100),
+        _ => ROWS_LENT,
+    };
+    lent as u32
 }
 
 /// A budget that keeps most trees whole, and the others short.
@@ -60,9 +87,9 @@ fn usual_budget(random: &mut Random) -> u64 {
     }
 }
 
-fn usual(random: &mut Random, shape: impl Fn(&mut Random) -> Draft) -> Record {
+fn usual(random: &mut Random, shape: impl Fn(&mut Random) -> Draft) -> Asked {
     let words = shape(random).words();
-    Record { budget: usual_budget(random), words }
+    Asked { budget: usual_budget(random), words }
 }
 
 fn random_draft(random: &mut Random, taste: Option<Taste>) -> Draft {
@@ -71,21 +98,21 @@ fn random_draft(random: &mut Random, taste: Option<Taste>) -> Draft {
     shape(random, taste)
 }
 
-fn shaped(random: &mut Random, taste: Option<Taste>) -> Record {
+fn shaped(random: &mut Random, taste: Option<Taste>) -> Asked {
     usual(random, |random| random_draft(random, taste))
 }
 
 /// A budget of the number of steps, or one off.
-fn at_budget(random: &mut Random) -> Record {
+fn at_budget(random: &mut Random) -> Asked {
     let words = random_draft(random, None).words();
     let steps = match assess(&words, 5_000) {
         Answer::Report(report) => report.counts.steps,
         Answer::Refused(_) => 5_000,
     };
-    Record { budget: steps + 1 - random.next() % 3, words }
+    Asked { budget: steps + 1 - random.next() % 3, words }
 }
 
-fn damaged(random: &mut Random, times: usize) -> Record {
+fn damaged(random: &mut Random, times: usize) -> Asked {
     let mut draft = random_draft(random, None);
     let on_draft = random.size(0, times);
     for _ in 0..on_draft {
@@ -96,26 +123,26 @@ fn damaged(random: &mut Random, times: usize) -> Record {
         damage_words(random, &mut words);
     }
     let budget = if times > 1 && random.once_in(20) { 0 } else { usual_budget(random) };
-    Record { budget, words }
+    Asked { budget, words }
 }
 
-fn random_words(random: &mut Random) -> Record {
+fn random_words(random: &mut Random) -> Asked {
     let mut words = random_draft(random, None).words();
     words.truncate(random.size(0, 8));
     for _ in 0..random.size(0, 12) {
         words.push(random_word(random));
     }
-    Record { budget: usual_budget(random), words }
+    Asked { budget: usual_budget(random), words }
 }
 
-fn out_of_range_budget(random: &mut Random) -> Record {
+fn out_of_range_budget(random: &mut Random) -> Asked {
     let words = random_draft(random, None).words();
     let large = [0, MOST_STEPS + 1, u64::from(u32::MAX) + 2, 1 << 63, u64::MAX];
-    Record { budget: random.pick(&large), words }
+    Asked { budget: random.pick(&large), words }
 }
 
 /// 4,000 transitions, or one too many, or 16,006 words.
-fn full_table(random: &mut Random) -> Record {
+fn full_table(random: &mut Random) -> Asked {
     let mut draft = edges::full_table(random);
     match random.size(0, 4) {
         0 => {
@@ -129,10 +156,10 @@ fn full_table(random: &mut Random) -> Record {
     if random.once_in(5) {
         words.resize(random.size(16_005, 16_007), 0);
     }
-    Record { budget: random.pick(&[1, 1_000, 4_000]), words }
+    Asked { budget: random.pick(&[1, 1_000, 4_000]), words }
 }
 
 /// Trees of thousands to a million steps, and larger ones than any budget allows.
-fn whole_budget(random: &mut Random) -> Record {
-    Record { budget: MOST_STEPS, words: edges::large_tree(random).words() }
+fn whole_budget(random: &mut Random) -> Asked {
+    Asked { budget: MOST_STEPS, words: edges::large_tree(random).words() }
 }

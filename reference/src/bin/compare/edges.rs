@@ -109,6 +109,9 @@ fn one_of_each_class(random: &mut Random, time: Quantity, mean: Quantity) -> Dra
 
 /// A lower total whose last nine digits are nines, with a far smaller lower added to it.
 pub fn totals_at_an_edge(random: &mut Random) -> Draft {
+    if random.once_in(2) {
+        return row_at_an_edge(random);
+    }
     let mut draft = Draft::new(6, quantity(random.word(1, 999_999), 3));
     let (mean, deviation) = (quantity(1, 20), quantity(0, 0));
     let small = quantity(random.word(1, 999), random.pick(&[6, 9, 12]));
@@ -123,6 +126,40 @@ pub fn totals_at_an_edge(random: &mut Random) -> Draft {
         fast(4, to, share);
     }
     draft.slow(5, 1, quantity(random.word(1, 999_999), 9));
+    draft
+}
+
+/// Three paths to one state, so that its row's lower total is at such an edge: the last nine digits
+/// are 999,999,998 after two of them, and the third adds more than one to them and less than two.
+fn row_at_an_edge(random: &mut Random) -> Draft {
+    let mut draft = Draft::new(5, quantity(random.word(1, 999_999), 3));
+    let small = random.word(1_001, 1_999);
+    let mut fast = |from, to, share| draft.fast(from, to, [quantity(1, 20), quantity(0, 0), share]);
+    fast(1, 2, quantity(999_999, 6));
+    fast(1, 3, quantity(1, 9));
+    fast(1, 4, quantity(1, 12));
+    fast(1, 5, quantity(998_999, 12));
+    fast(3, 2, quantity(1, 0));
+    fast(4, 2, quantity(small, 9));
+    fast(4, 5, quantity(999_998, 6));
+    fast(4, 1, quantity(2_000 - small, 9));
+    draft.slow(5, 1, quantity(random.word(1, 999_999), 9));
+    draft
+}
+
+/// Some sixty states in a row, each with fifteen states of its own in which it can end.
+pub fn hundreds_of_rows(random: &mut Random) -> Draft {
+    let taste = random.pick(&TASTES);
+    let live = random.size(20, 62);
+    let mut draft = Draft::new(1_000, taste.time(random));
+    let mut dead: Vec<usize> = (live + 2..=1_000).collect();
+    random.shuffle(&mut dead);
+    for (from, ends) in (1..=live).zip(dead.chunks(15)) {
+        let mut to = ends.to_vec();
+        to.push(from + 1);
+        let slow = random.size(1, to.len());
+        draft.add_exits(random, taste, from, &to[..slow], &to[slow..]);
+    }
     draft
 }
 

@@ -12,7 +12,7 @@ mod tally;
 
 use cases::{case, Case};
 use options::Options;
-use reference::{accuracy, assess, stream, words, Answer, Report};
+use reference::{accuracy, stream, words, Answer, Report, Row};
 use std::io::{self, BufRead, BufReader, BufWriter, Write};
 use std::process::{Child, Command, ExitCode, Stdio};
 use std::sync::mpsc::{channel, Receiver, Sender};
@@ -25,12 +25,25 @@ struct Expected {
     number: u64,
     kind: &'static str,
     answer: Answer,
+    /// The number of rows lent, and those that were filled.
+    lent: u32,
+    rows: Vec<Row>,
+    text: String,
+}
+
+impl Expected {
+    fn of(number: u64, case: &Case) -> Expected {
+        let (answer, rows) = stream::answer(&case.record);
+        let text = stream::text(&answer, &rows);
+        let rows = rows.into_iter().flatten().collect();
+        Expected { number, kind: case.kind, answer, lent: case.record.rows, rows, text }
+    }
 }
 
 /// Why the comparison ended early.
 enum Trouble {
-    Difference { number: u64, expected: Answer, found: String },
-    Inaccurate { number: u64, answer: Answer, breach: accuracy::Breach },
+    Difference { number: u64, expected: String, found: String },
+    Inaccurate { number: u64, answer: String, breach: accuracy::Breach },
     NoAnswer { number: u64 },
     Broken(io::Error),
 }
@@ -109,12 +122,11 @@ fn send_models(
 ) -> io::Result<()> {
     let mut input = BufWriter::with_capacity(1 << 16, input);
     for number in numbers {
-        let Case { kind, record } = case(seed, number);
-        let answer = assess(&record.words, record.budget);
-        if sender.send(Expected { number, kind, answer }).is_err() {
+        let case = case(seed, number);
+        if sender.send(Expected::of(number, &case)).is_err() {
             return Ok(());
         }
-        stream::write_record(&mut input, &record)?;
+        stream::write_record(&mut input, &case.record)?;
     }
     input.flush()
 }
@@ -125,16 +137,18 @@ fn receive_answers(
     mut output: impl BufRead,
     tally: &mut Tally,
 ) -> Result<(), Trouble> {
-    for Expected { number, kind, answer } in receiver {
+    for expected in receiver {
+        let number = expected.number;
         let found = read_answer(&mut output)
             .map_err(Trouble::Broken)?
             .ok_or(Trouble::NoAnswer { number })?;
-        if found != answer.to_string() {
-            return Err(Trouble::Difference { number, expected: answer, found });
+        if found != expected.text {
+            return Err(Trouble::Difference { number, expected: expected.text, found });
         }
-        tally.count(kind, &answer);
-        if let (Answer::Report(report), true) = (&answer, options.accuracy) {
-            check_accuracy(options, number, report, tally)?;
+        tally.count(expected.kind, &expected.answer);
+        tally.count_rows(&expected.answer, expected.lent, &expected.rows);
+        if let (Answer::Report(report), true) = (&expected.answer, options.accuracy) {
+            check_accuracy(options, &expected, report, tally)?;
         }
     }
     match read_answer(&mut output).map_err(Trouble::Broken)? {
@@ -161,10 +175,11 @@ fn read_answer(output: &mut impl BufRead) -> io::Result<Option<String>> {
 
 fn check_accuracy(
     options: &Options,
-    number: u64,
+    expected: &Expected,
     report: &Report,
     tally: &mut Tally,
 ) -> Result<(), Trouble> {
+    let number = expected.number;
     let paths = report.counts.deaths + report.counts.cuts;
     if paths > options.paths {
         tally.too_many_paths += 1;
@@ -172,13 +187,14 @@ fn check_accuracy(
     }
     let record = case(options.seed, number).record;
     if let Ok(model) = words::read(&record.words, record.budget) {
-        accuracy::check(&model, report).map_err(|breach| Trouble::Inaccurate {
+        accuracy::check(&model, report, &expected.rows).map_err(|breach| Trouble::Inaccurate {
             number,
-            answer: Answer::Report(*report),
+            answer: expected.text.clone(),
             breach,
         })?;
     }
     tally.accurate += 1;
+    tally.accurate_rows += expected.rows.len() as u64;
     tally.exact_paths += paths;
     Ok(())
 }
@@ -207,7 +223,7 @@ fn describe(options: &Options, trouble: &Trouble) {
 fn describe_model(options: &Options, number: u64) {
     let Case { kind, record } = case(options.seed, number);
     println!("model: seed {}, number {number}, {kind}", options.seed);
-    println!("budget: {}", record.budget);
+    println!("budget: {}, rows lent: {}", record.budget, record.rows);
     println!("words: {}", record.words.len());
     for line in record.words.chunks(12) {
         let line: Vec<String> = line.iter().map(|word| format!("{word:08X}")).collect();

@@ -6,7 +6,7 @@ use crate::random::Random;
 
 pub type Shape = fn(&mut Random, Taste) -> Draft;
 
-pub const SHAPES: [(&str, Shape); 8] = [
+pub const SHAPES: [(&str, Shape); 9] = [
     ("graph", graph),
     ("no loops", no_loops),
     ("chain of up to 24 steps", chain),
@@ -15,6 +15,7 @@ pub const SHAPES: [(&str, Shape); 8] = [
     ("slow and fast in parallel", parallel),
     ("computer", computer),
     ("many states", many_states),
+    ("ways to fail", ways_to_fail),
 ];
 
 /// States, drawn without repetition, to which a state may lead.
@@ -202,5 +203,28 @@ pub fn many_states(random: &mut Random, taste: Taste) -> Draft {
         random_exits(&mut draft, random, taste, start, &allowed, 16);
     }
     draft.step_limit = random.pick(&[2, 5, 24]);
+    draft
+}
+
+/// Several states without exits in any order of their numbers: some where paths die, some to which
+/// only states lead that are never reached, and some to which nothing leads.
+pub fn ways_to_fail(random: &mut Random, taste: Taste) -> Draft {
+    let (walked, aside, dead) = (random.size(1, 4), random.size(0, 2), random.size(1, 9));
+    let states = walked + aside + dead;
+    let mut draft = Draft::new(states, taste.time(random));
+    let mut order = others(states, 0);
+    random.shuffle(&mut order);
+    let (live, ends) = order.split_at(walked + aside);
+    draft.start = live[0];
+    for (place, &from) in live.iter().enumerate() {
+        let onward = if place < walked { &live[..walked] } else { live };
+        let mut to: Vec<usize> = onward.iter().copied().filter(|&state| state != from).collect();
+        to.extend(targets(random, ends, 4));
+        random_exits(&mut draft, random, taste, from, &to, 6);
+    }
+    random_prune(&mut draft, random);
+    draft.step_limit = random.pick(&[1, 2, 3, 5, 24]);
+    draft.entry_limit = random.pick(&[1, 1, 2]);
+    random.shuffle(&mut draft.transitions);
     draft
 }

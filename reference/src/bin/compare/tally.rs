@@ -1,11 +1,11 @@
 //! Counts of what was compared, by kind of model and by answer.
 
-use reference::Answer;
+use reference::{Answer, Row};
 use std::collections::BTreeMap;
 use std::fmt;
 
 /// The columns: reports, then refusals by number.
-const REFUSALS: [u32; 12] = [1, 2, 3, 4, 5, 6, 7, 8, 9, 10, 11, 13];
+const REFUSALS: [u32; 13] = [1, 2, 3, 4, 5, 6, 7, 8, 9, 10, 11, 13, 14];
 
 #[derive(Default)]
 pub struct Tally {
@@ -13,12 +13,22 @@ pub struct Tally {
     rows: BTreeMap<&'static str, BTreeMap<u32, u64>>,
     /// Reports on which the accuracy rule was checked.
     pub accurate: u64,
+    /// Rows of these reports.
+    pub accurate_rows: u64,
     /// Reports of too many paths for that.
     pub too_many_paths: u64,
     /// Ended paths in the reports that were checked.
     pub exact_paths: u64,
     pub lower_above_zero: u64,
     pub steps: u64,
+    /// Reports with rows filled, their rows, and those of states where no path died.
+    pub with_rows: u64,
+    pub filled: u64,
+    pub deathless: u64,
+    /// Refusals 13 with rows filled.
+    pub thirteen_with_rows: u64,
+    /// Answers that left at least one row as it was.
+    pub rows_beyond: u64,
 }
 
 impl Tally {
@@ -32,6 +42,20 @@ impl Tally {
             Answer::Refused(refusal) => refusal.number,
         };
         *self.rows.entry(kind).or_default().entry(number).or_default() += 1;
+    }
+
+    /// Counts what became of so many rows lent.
+    pub fn count_rows(&mut self, answer: &Answer, lent: u32, rows: &[Row]) {
+        self.rows_beyond += u64::from((lent as usize) > rows.len());
+        let any = u64::from(!rows.is_empty());
+        match answer {
+            Answer::Report(_) => {
+                self.with_rows += any;
+                self.filled += rows.len() as u64;
+                self.deathless += rows.iter().filter(|row| row.upper.is_zero()).count() as u64;
+            }
+            Answer::Refused(_) => self.thirteen_with_rows += any,
+        }
     }
 
     pub fn models(&self) -> u64 {
@@ -65,9 +89,14 @@ impl fmt::Display for Tally {
         writeln!(out)?;
         writeln!(out, "steps in the reports: {}", self.steps)?;
         writeln!(out, "reports with a lower figure above zero: {}", self.lower_above_zero)?;
+        let (reports, filled, deathless) = (self.with_rows, self.filled, self.deathless);
+        writeln!(out, "rows filled: {filled} in {reports} reports, {deathless} without a death")?;
+        writeln!(out, "rows of zeros on refusal 13: {} answers", self.thirteen_with_rows)?;
+        writeln!(out, "rows left as they were: {} answers", self.rows_beyond)?;
         if self.accurate + self.too_many_paths > 0 {
             let (checked, paths) = (self.accurate, self.exact_paths);
             writeln!(out, "accuracy rule held on {checked} reports of {paths} ended paths")?;
+            writeln!(out, "and on {} rows of them", self.accurate_rows)?;
             writeln!(out, "reports of too many paths to check: {}", self.too_many_paths)?;
         }
         Ok(())
