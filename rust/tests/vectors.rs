@@ -74,8 +74,7 @@ fn check_file(
 
 #[test]
 fn expected_answers() -> Result<(), Box<dyn Error>> {
-<<<<<<< ours
-    assert_eq!(check_file("models.txt", check)?, 367);
+    assert_eq!(check_file("models.txt", check)?, 417);
     assert_eq!(check_file("papers.txt", check)?, 98);
     Ok(())
 }
@@ -83,9 +82,5 @@ fn expected_answers() -> Result<(), Box<dyn Error>> {
 #[test]
 fn expected_rows() -> Result<(), Box<dyn Error>> {
     assert_eq!(check_file("rows.txt", check_rows)?, 60);
-=======
-    assert_eq!(check_file("models.txt")?, 417);
-    assert_eq!(check_file("papers.txt")?, 98);
->>>>>>> theirs
     Ok(())
 }
