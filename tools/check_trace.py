@@ -1,16 +1,19 @@
 """Checks docs/TRACE.md, docs/CLAIMS.md, docs/GLOSSARY.md and docs/ARCHITECTURE.md: each file that they name exists, and each name is declared in the file
 named with it. Each must-fail edit is named by the trace or the claims.
 
-    python3 tools/check_trace.py              files and names
-    python3 tools/check_trace.py DOCUMENT     also each sentence of the trace, word for word, and that none of the document is left out
+    python3 tools/check_trace.py                 files and names
+    python3 tools/check_trace.py DOCUMENT ..     also each sentence of the trace, word for word, and that none of the documents is left out
 
 In a cell of the trace's and the glossary's tables and in an item of the claims that begins "Says so", "Refused edits" or "A model" ("Models") "that would
 answer otherwise", what stands in backticks is a file (it has a slash and a suffix, or ends in stdin or stdout) or a name, which belongs to the file before it
 in that cell or item. Of all else in the claims and the
 architecture only files are looked at, but for those with a word such as NAME in their path. Files are below crates/ or else below the repository's root.
 In the trace's column of vectors a name without a file is a model of reference/tests/data/models.txt, papers.txt or rows.txt, and one letter is one of
-document 01's models A to L, as the list in crates/tree/specs/Marked.antt has it. A cell that holds only a dash is empty. Ends with 0 if nothing is wrong,
-else with 1.
+document 01's models A to L, as the list in crates/tree/specs/Marked.antt has it. A cell that holds only a dash is empty.
+
+The rows below a heading "Document 02, Item N" of the trace have the sentences of that item, all other rows those of document 01. A document whose paragraphs
+begin with "**Item N. TITLE.**" is one of requests: of it only the items that have landed are expected, each below its own heading. An item has landed if
+there is a note on it, docs/landings/item-NN.md; each note has its heading and each heading its note. Ends with 0 if nothing is wrong, else with 1.
 """
 import re
 import sys
@@ -22,6 +25,9 @@ ITEMS = ("- Says so:", "- Refused edits:", "- A model that would answer otherwis
 MODELS = ["reference/tests/data/models.txt", "reference/tests/data/papers.txt", "reference/tests/data/rows.txt"]
 MARKED = "tree/specs/Marked.antt"
 EMPTY = "—"
+HEADING = re.compile(r"## Document 02, Item (\d+)\b")
+REQUEST = re.compile(r"^\*\*Item (\d+)\. [^*]*\*\*(.*)$", re.M)
+NOTES = "docs/landings/item-*.md"
 FILE = re.compile(r"[\w+.-]+(/[\w+.-]+)*/([\w+.-]+\.\w+|stdin|stdout)")
 STANDS_FOR = re.compile(r"(^|/)\+?(NAME|MODULE|TYPE|FUNCTION|METHOD|SUBJECT|LABEL)[/.]")
 PART_OF_NAME = r"[\w\-′ᶠ·]"
@@ -67,7 +73,7 @@ class Trace:
 
     def __init__(self):
         self.rows, self.files, self.names, self.empty, self.wrong = 0, set(), 0, 0, []
-        self.sentences, self.texts, self.document = [], {}, TRACE
+        self.sentences, self.texts, self.document = {None: []}, {}, TRACE
 
     def text(self, path):
         if path not in self.texts:
@@ -146,11 +152,15 @@ class Trace:
                     self.file(line, word)
 
     def tables(self, document):
-        """The rows of a page's tables: a sentence or a letter, then cells of files and names."""
-        self.document, columns = document, []
+        """The rows of a page's tables: a sentence or a letter, then cells of files and names. The sentences are kept by item, None being document 01."""
+        self.document, columns, request = document, [], None
         for line, row in enumerate(self.lines(document), 1):
             if not row.startswith("|"):
                 columns = []
+                if document == TRACE and row.startswith("## "):
+                    heading = HEADING.match(row)
+                    request = int(heading[1]) if heading else None
+                    self.sentences.setdefault(request, [])
                 continue
             cells = [c.strip() for c in row.strip().strip("|").split("|")]
             if not columns:
@@ -160,7 +170,7 @@ class Trace:
                 if len(cells) != len(columns):
                     self.fail(line, f"{len(cells)} cells in a table of {len(columns)} columns")
                 if document == TRACE:
-                    self.sentences.append((line, cells[0]))
+                    self.sentences[request].append((line, cells[0]))
                 for column, cell in zip(columns[1:], cells[1:]):
                     self.cell(line, cell, column == "Vector")
 
@@ -180,11 +190,11 @@ def plain(text):
     return re.sub(r"\s+", " ", " ".join(lines).replace("`", "")).strip()
 
 
-def compare(trace, document):
-    """Each sentence stands in the document, and nothing of the document stands in no sentence."""
-    text = plain(Path(document).read_text(encoding="utf-8"))
+def compare(trace, sentences, text):
+    """Each sentence stands in the text, and nothing of the text stands in no sentence."""
+    trace.document, text = TRACE, plain(text)
     covered = bytearray(len(text))
-    for line, sentence in trace.sentences:
+    for line, sentence in sentences:
         for part in plain(sentence).split(" … "):
             at = text.find(part)
             if at < 0:
@@ -197,11 +207,33 @@ def compare(trace, document):
         trace.wrong.append(f"no row has: {rest.strip()}")
 
 
+def compare_document(trace, document):
+    """The rows of document 01, or of the items of one of requests that have landed."""
+    text = Path(document).read_text(encoding="utf-8")
+    requests = {int(number): words for number, words in REQUEST.findall(text)}
+    if not requests:
+        compare(trace, trace.sentences[None], text)
+        return
+    for number in sorted(n for n in trace.sentences if n is not None):
+        if number in requests:
+            compare(trace, trace.sentences[number], requests[number])
+        else:
+            trace.wrong.append(f"{document} has no Item {number}")
+
+
+def landed(trace):
+    """The items that the trace has are those with a note on their landing."""
+    notes = {int(re.search(r"(\d+)\.md$", note.name)[1]) for note in ROOT.glob(NOTES)}
+    for number in sorted(notes ^ (set(trace.sentences) - {None})):
+        trace.wrong.append(f"{TRACE} has no heading of Item {number}" if number in notes else f"there is no note on the landing of Item {number}")
+
+
 def main(arguments):
     trace = Trace()
     trace.tables(TRACE)
-    if arguments:
-        compare(trace, arguments[0])
+    landed(trace)
+    for document in arguments:
+        compare_document(trace, document)
     trace.tables(GLOSSARY)
     trace.claims()
     edits(trace)

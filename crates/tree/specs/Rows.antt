@@ -44,7 +44,7 @@ row-of-report s r = record { state = s; lower = r .lower; upper = r .upper }
 unfoldable pub row-on : Net → List Visit → ℕ → Row
 row-on net vs s = row-of-report s (report-of net (ending-in net s (deaths vs)) [] 0)
 
--- a "state number and zeros"
+-- a row with its state number and zeros
 abbrev pub zero-row : ℕ → Row
 zero-row s = record { state = s; lower = none; upper = none }
 
