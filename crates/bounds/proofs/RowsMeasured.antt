@@ -12,6 +12,7 @@ use borrow.Author.Tests.{ltb-true, ltb-false}
 use Rattle.figure.specs.Rounding.{none}
 use Rattle.figure.specs.Operands.{Operand}
 use Rattle.figure.specs.Operations.{to-nine-down, sum-to-nine-up}
+use Rattle.figure.proofs.Gathered.{gathered-more}
 use Rattle.word.specs.declared.Refusal.{Refusal}
 use Rattle.word.specs.declared.Refusal.the-variants.{TooFewRows, OverBudget}
 use Rattle.word.specs.Refusal.{number, place}
@@ -30,21 +31,31 @@ use Rattle.tree.proofs.Ranges.{total-none, total-operand}
 use Rattle.tree.proofs.Answer.{walk-refused, walk-reported}
 use Rattle.tree.proofs.RowStates.{row-states-few, row-states-range}
 use Rattle.tree.proofs.RowAnswers.{RowsRefused, rows-read-refused, rows-read-few, rows-read-granted, rows-of-length, rows-of-over-at, rows-of-within-at}
-use Rattle.path.specs.declared.totals.Totals.{Totals}
-use Rattle.path.specs.Internal.Totals.{totals-of}
-use Rattle.rows.specs.Internal.Table.{row-count, row-state, totals-in, NamesKept}
+use Rattle.path.specs.declared.counts.Counts.{Counts}
+use Rattle.rows.specs.Internal.Table.{row-count, row-state, totals-in, NamesKept, TableGathered}
 use Rattle.rows.specs.Internal.Filling.{row-in, RowFits, Fits, Has}
 use Rattle.rows.specs.Internal.Names.{Named}
+use Rattle.rows.proofs.RowTotals.{empty-rows}
 use Rattle.bounds.specs.declared.Report.{Report}
 use Rattle.bounds.specs.declared.Answer.{Answer}
 use Rattle.bounds.specs.declared.Answer.the-variants.{Report as reported, Refused}
 use Rattle.bounds.specs.Answers.{answer-of, report-of}
 use Rattle.bounds.specs.Internal.Measured.{Measured}
-use Rattle.bounds.specs.Internal.Walk.{EndsOver, KeptCounted}
+use Rattle.bounds.specs.Internal.Walk.{totals-of, EndsOver, KeptCounted}
+
+-- totals of at most as many terms as the greatest budget
+pub table-most : {n : ℕ} {table : List ℕ} → TableGathered n table → n ≤ 1000000 → TableGathered 1000000 table
+table-most h few = record {
+  size = h .size;
+  lower = gathered-more few (h .lower);
+  death = gathered-more few (h .death);
+  cut = gathered-more few (h .cut);
+  each-row = λ s. record { lower = gathered-more few (h .each-row s .lower); upper = gathered-more few (h .each-row s .upper) };
+}
 
 -- ---- no rows
 
-module _ (ws : List ℕ) (budget lent : ℕ) {table : List ℕ} (cleared : table ≡ replicate 5006 0) where
+module _ (ws : List ℕ) (budget lent : ℕ) {table : List ℕ} (cleared : table ≡ replicate 5012 0) where
   no-rows : row-count table ≡ 0
   no-rows = ap (λ l. getD l 0 0) cleared
 
@@ -123,7 +134,7 @@ module _ (ws : List ℕ) (budget lent : ℕ) {m : Model} (read : reading.read ws
   high : m .states ≤ 1000
   high = read-valid ws budget m read .states-high
 
-  module _ {t : Totals} (after : List ℕ) (ends : EndsOver (m .net) budget nothing-kept (tree (m .net) (m .limits)) t after) where
+  module _ {t : Counts} (after : List ℕ) (ends : EndsOver (m .net) budget nothing-kept (tree (m .net) (m .limits)) t after) where
     -- the walk went over the budget, and the rows were named anew
     pub measured-over : {table : List ℕ} {n : ℕ} → Named m table n → ltb budget (t .steps) ≡ true → Measured ws ws budget lent table (Refused OverBudget)
     unfolding finish-row
@@ -136,16 +147,16 @@ module _ (ws : List ℕ) (budget lent : ℕ) {m : Model} (read : reading.read ws
           has = subst (Has table) (sym (granted .fills)) (has-there m high named kept budget
               (λ i h. zero-there named (getD (row-states m) i 0) ∙ sym (rows-of-over-at budget m i (zero-row 0) h more)));
           fits = fits-there m high named kept enough
-              (λ s. rw (named .no-totals) (total-operand total-none (lit≤ tt), total-operand total-none (lit≤ tt)));
+              (λ s. rw (empty-rows (named .no-totals)) (total-operand total-none (lit≤ tt), total-operand total-none (lit≤ tt)));
           words-unchanged = refl;
         }
       where
         zero-there : Named m table n → (s : ℕ) → finish-row s (totals-in table s) ≡ zero-row s
-        zero-there named s = rw (named .no-totals) (λ i. record { state = s; lower = none-nine i; upper = none-sum i })
+        zero-there named s = rw (empty-rows (named .no-totals)) (λ i. record { state = s; lower = none-nine i; upper = none-sum i })
 
     -- a report
     pub measured-report : {table : List ℕ} {n : ℕ} → Named m table n → NamesKept table after → KeptCounted t after → t .steps ≤ 1000000
-        → (q : Report) → report-of q ≡ running.finish (totals-of t) → ltb budget (t .steps) ≡ false → Measured ws ws budget lent after (reported q)
+        → (q : Report) → report-of q ≡ running.finish (totals-of t after) → ltb budget (t .steps) ≡ false → Measured ws ws budget lent after (reported q)
     measured-report {table} {n} named names counted few q is within =
         let granted = rows-read-granted ws budget lent read enough in
         let less : length (tree (m .net) (m .limits)) ≤ budget = omega (arith, ltb-false budget (0 + length (tree (m .net) (m .limits))) (sym (ends .over-is) ∙ within)) in
@@ -154,7 +165,7 @@ module _ (ws : List ℕ) (budget lent : ℕ) {m : Model} (read : reading.read ws
           has = subst (Has after) (sym (granted .fills)) (has-there m high named names budget
               (λ i h. row-there (getD (row-states m) i 0) ∙ sym (rows-of-within-at budget m i (zero-row 0) h less)));
           fits = fits-there m high named names enough
-              (λ s. let g = counted .each-row s in (total-operand (g .lower) (le-trans few (lit≤ tt)), total-operand (g .upper) (le-trans few (lit≤ tt))));
+              (λ s. let g = counted .totals .each-row s in (total-operand (g .lower) (le-trans few (lit≤ tt)), total-operand (g .upper) (le-trans few (lit≤ tt))));
           words-unchanged = refl;
         }
       where

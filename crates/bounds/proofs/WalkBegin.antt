@@ -6,7 +6,7 @@ use mathlib.Core.List.{List}
 use native.Mathlib.Omega.{arith}
 use native.Mathlib.Nat.{le-trans, add-zero, zero-add}
 use lib.Dec.{lit≤}
-use lib.ListN.{length, set, replicate}
+use lib.ListN.{set, replicate}
 use Rattle.figure.specs.declared.Figure.{Figure}
 use Rattle.figure.specs.Operations.{of-whole}
 use Rattle.word.specs.declared.Refusal.{Refusal}
@@ -24,18 +24,18 @@ use Rattle.model.proofs.Refusals.{read-reads, read-budget}
 use Rattle.tree.specs.States.{figure-of}
 use Rattle.tree.specs.Tree.{tree, Visit}
 use Rattle.tree.specs.Internal.Carried.{at-start}
-use Rattle.tree.specs.Internal.Tally.{Kept, zero-totals, zero-row-totals, nothing-kept}
+use Rattle.tree.specs.Internal.Tally.{Kept, nothing-kept}
 use Rattle.tree.proofs.Carried.{start-carries, carried-tree}
-use Rattle.tree.proofs.Ranges.{total-none}
 use Rattle.tables.specs.Internal.Described.{Indexes, described}
 use Rattle.tables.specs.Internal.Tables.{Tabled}
 use Rattle.bounds.specs.declared.walk.Task.{Task}
 use Rattle.path.specs.declared.exits.Tip.{Tip}
-use Rattle.path.specs.declared.totals.Totals.{Totals}
+use Rattle.path.specs.declared.counts.Counts.{Counts}
 use Rattle.path.specs.Internal.Lent.{lent}
 use Rattle.path.specs.Internal.Paths.{path-of}
-use Rattle.path.specs.Internal.Totals.{Counted, nothing-yet}
-use Rattle.rows.specs.Internal.Table.{totals-in}
+use Rattle.path.specs.Internal.Counts.{no-counts}
+use Rattle.rows.specs.Internal.Table.{NoTotals}
+use Rattle.rows.proofs.RowTotals.{empty-total, empty-rows, empty-gathered}
 use Rattle.bounds.specs.Internal.Walk.{Asked, asked, carried-in, carried-of, kept-of, visits-from, Ready, EndsOver, WalkedBeyond, WalkedTree}
 
 -- ---- an accepted reading
@@ -69,9 +69,6 @@ module _ {ws index : List ℕ} {budget : ℕ} {a : Accepted} (accepts : Accepts 
 
 -- ---- what the first four words give
 
-nothing-counted : Counted nothing-yet
-nothing-counted = record { lower = total-none; died = total-none; cut = total-none; deaths = omega arith; cuts = omega arith }
-
 module _ {ws index : List ℕ} (indexes : Indexes ws index) {a : Accepted} (is : a ≡ summary (described ws)) where
   abbrev m : Model
   m = described ws
@@ -103,13 +100,22 @@ module _ {ws index : List ℕ} (indexes : Indexes ws index) {a : Accepted} (is :
     unfolding at-start path-of
     at-the-start path = rw (one, is) refl
 
-    module _ (path : List ℕ) {totals : Totals} (none-yet : totals ≡ nothing-yet) (rows : List ℕ) (size : length rows ≡ 5006)
-        (no-rows : totals-in rows ≡ zero-row-totals) where
+    module _ (path : List ℕ) {counts : Counts} (none-yet : counts ≡ no-counts) (rows : List ℕ) (empty : NoTotals rows) where
       abbrev first : Asked
-      first = asked task tip (a .«step_limit») entered path totals rows
+      first = asked task tip (a .«step_limit») entered path counts rows
 
-      nothing-so-far : kept-of totals rows ≡ nothing-kept
-      nothing-so-far = rw none-yet (λ i. record { totals = zero-totals; rows = no-rows i })
+      nothing-so-far : kept-of counts rows ≡ nothing-kept
+      nothing-so-far = rw none-yet (λ i. record {
+        totals = record {
+          lower = empty-total empty 1002 (omega arith) i;
+          death-upper = empty-total empty 1004 (omega arith) i;
+          cut-upper = empty-total empty 1006 (omega arith) i;
+          deaths = 0;
+          cuts = 0;
+          steps = 0;
+        };
+        rows = empty-rows empty i;
+      })
 
       pub walk-ready : Ready (lent ws index table) first
       walk-ready = record {
@@ -126,23 +132,19 @@ module _ {ws index : List ℕ} (indexes : Indexes ws index) {a : Accepted} (is :
         state-high = rw is (indexes .valid .start-high);
         depth = add-zero (a .«step_limit») ∙ ap (λ (x : Accepted). x .«step_limit») is;
         more = rw is (indexes .valid .steps-low);
-        counted = record {
-          totals = rw none-yet nothing-counted;
-          each-row = λ s. rw (none-yet, no-rows) (record { lower = total-none; upper = total-none });
-          size = size;
-        };
+        counted = rw none-yet (record { counts = record { deaths = omega arith; cuts = omega arith }; totals = empty-gathered empty });
         within = rw none-yet (omega arith);
       }
 
       -- and the walk from there is the one over the tree
-      pub walk-tree : {r : Totals} {after : List ℕ} → WalkedBeyond (lent ws index table) first r after → WalkedTree ws budget r rows after
+      pub walk-tree : {r : Counts} {after : List ℕ} → WalkedBeyond (lent ws index table) first r after → WalkedTree ws budget r rows after
       unfolding path-of tree
       walk-tree {r} {after} done =
           let e : visits-from (lent ws index table) (a .«step_limit») (carried-in (lent ws index table) first) ≡ tree (m .net) (m .limits) =
           ap₂ (visits-from (lent ws index table)) (ap (λ (x : Accepted). x .«step_limit») is) (at-the-start path) ∙ carried-tree m (indexes .valid) in
           record {
             ends = subst (λ (w : Kept). EndsOver (m .net) budget w (tree (m .net) (m .limits)) r after) nothing-so-far
-                (subst (λ (vs : List Visit). EndsOver (m .net) budget (kept-of totals rows) vs r after) e (done .ends));
+                (subst (λ (vs : List Visit). EndsOver (m .net) budget (kept-of counts rows) vs r after) e (done .ends));
             counted = done .counted;
             names-kept = done .names-kept;
             steps-are = λ within. done .steps-are within ∙ rw (none-yet, is) (zero-add _);

@@ -14,19 +14,19 @@ use Rattle.model.specs.Internal.Valid.{Valid}
 use Rattle.model.specs.Index.{exit-count}
 use Rattle.model.proofs.Slots.{counts-few, slot-below, slot-leaves}
 use Rattle.tree.proofs.Positive.{ValidSteps}
-use Rattle.tree.proofs.Ranges.{any-upper-sized, class1-count-≤, total-same}
-use Rattle.tree.specs.Internal.Tally.{with-step}
+use Rattle.tree.proofs.Ranges.{any-upper-sized, class1-count-≤}
 use Rattle.tree.specs.Internal.Carried.{Carried}
 use Rattle.tree.proofs.Tally.{tally-steps}
 use Rattle.tree.proofs.Carried.{rest, carried-is, valid-known}
 use Rattle.tree.specs.Internal.Going.{Walked}
 use Rattle.tree.proofs.Going.{Going, exits-start, exits-end, exit-over}
-use Rattle.path.specs.declared.totals.Totals.{Totals}
+use Rattle.path.specs.declared.counts.Counts.{Counts}
 use Rattle.path.specs.declared.deaths.Cache.{Cache}
 use Rattle.path.specs.Internal.Lent.{Lent, model-in, net-in, limits-in}
 use Rattle.path.specs.Internal.Paths.{path-of}
-use Rattle.path.specs.Internal.Totals.{totals-of, Counted}
+use Rattle.path.specs.Internal.Counts.{step-more}
 use Rattle.rows.specs.Internal.Table.{NamesKept}
+use Rattle.rows.proofs.RowTotals.{table-step}
 use Rattle.path.specs.Internal.Exits.{ExitReady}
 use Rattle.path.specs.Internal.Deaths.{Cached}
 use Rattle.bounds.specs.Internal.Walk.{Asked, carried-in, kept-of, KeptCounted, Ready, Ends, visits-from, visits-beyond}
@@ -38,12 +38,12 @@ pub record Held : Type 0 where
   pub i : ℕ
   pub entered : List ℕ
   pub taken : List ℕ
-  pub sums : Totals
+  pub made : Counts
   pub cache : Cache
   pub rows : List ℕ
 
-abbrev pub held : ℕ → List ℕ → List ℕ → Totals → Cache → List ℕ → Held
-held i entered taken sums cache rows = record { i = i; entered = entered; taken = taken; sums = sums; cache = cache; rows = rows }
+abbrev pub held : ℕ → List ℕ → List ℕ → Counts → Cache → List ℕ → Held
+held i entered taken made cache rows = record { i = i; entered = entered; taken = taken; made = made; cache = cache; rows = rows }
 
 -- At exit i: the entry counts are set back, the path in the array is as it was up to the tip, the rows are named as they were, and the totals so far,
 -- with the visits still to make, come to the totals of all.
@@ -52,26 +52,21 @@ pub record AtExit (l : Lent) (a : Asked) (h : Held) : Type 0 where
   pub size : length (h .taken) ≡ 24
   pub same : SameBelow (a .tip .len) (h .taken) (a .path)
   pub cached : Cached (net-in l) (path-of (net-in l) (a .path) (a .tip .len)) (a .tip .state) (h .cache)
-  pub counted : KeptCounted (h .sums) (h .rows)
+  pub counted : KeptCounted (h .made) (h .rows)
   pub names-kept : NamesKept (a .rows) (h .rows)
-  pub going : Going (net-in l) (a .task .budget) (kept-of (a .totals) (a .rows)) (visits-from l (suc (a .left - 1)) (carried-in l a))
-      (rest (net-in l) (limits-in l) (a .left - 1) (carried-in l a) (h .i)) (kept-of (h .sums) (h .rows))
+  pub going : Going (net-in l) (a .task .budget) (kept-of (a .counts) (a .rows)) (visits-from l (suc (a .left - 1)) (carried-in l a))
+      (rest (net-in l) (limits-in l) (a .left - 1) (carried-in l a) (h .i)) (kept-of (h .made) (h .rows))
 
-pub exit-same : {l : Lent} {a : Asked} {i : ℕ} {entered taken f k : List ℕ} {sums r : Totals} {cache c : Cache} {rows t : List ℕ}
-    → f ≡ entered → k ≡ taken → r ≡ sums → c ≡ cache → t ≡ rows → AtExit l a (held i entered taken sums cache rows) → AtExit l a (held i f k r c t)
+pub exit-same : {l : Lent} {a : Asked} {i : ℕ} {entered taken f k : List ℕ} {made r : Counts} {cache c : Cache} {rows t : List ℕ}
+    → f ≡ entered → k ≡ taken → r ≡ made → c ≡ cache → t ≡ rows → AtExit l a (held i entered taken made cache rows) → AtExit l a (held i f k r c t)
 exit-same p q r s t h = rw (p, q, r, s, t) h
 
-pub one-step : (t : Totals) {u : Totals} → totals-of u ≡ with-step (totals-of t) → u .steps ≡ t .steps + 1
-unfolding with-step
-one-step t e = ap (λ x. x .steps) e
-
--- one step more that adds nothing to rows
-pub step-counted : {t u : Totals} {rows : List ℕ} → Counted u → u .steps ≡ t .steps + 1 → KeptCounted t rows → KeptCounted u rows
-step-counted fine one h = record {
-  totals = fine;
-  each-row = λ s. let g = h .each-row s in rw one (record { lower = total-same (g .lower); upper = total-same (g .upper) });
-  size = h .size;
-}
+-- one step more that adds nothing to a total
+pub step-counted : {t u : Counts} {rows : List ℕ} → u ≡ step-more t → KeptCounted t rows → KeptCounted u rows
+step-counted is h = rw is (record {
+  counts = record { deaths = omega (arith, h .counts .deaths); cuts = omega (arith, h .counts .cuts) };
+  totals = table-step (h .totals);
+})
 
 module _ {l : Lent} {a : Asked} (ready : Ready l a) where
   abbrev here : Carried
@@ -124,7 +119,7 @@ module _ {l : Lent} {a : Asked} (ready : Ready l a) where
 
   pub loop-start : {cache : Cache} → length (a .path) ≡ 24
       → Cached (net-in l) (path-of (net-in l) (a .path) (a .tip .len)) (a .tip .state) cache
-      → AtExit l a (held 0 (a .entered) (a .path) (a .totals) cache (a .rows))
+      → AtExit l a (held 0 (a .entered) (a .path) (a .counts) cache (a .rows))
   loop-start size known = record {
     set-back = refl;
     size = size;
@@ -132,42 +127,41 @@ module _ {l : Lent} {a : Asked} (ready : Ready l a) where
     cached = known;
     counted = ready .counted;
     names-kept = record { size = refl; same = λ i h. refl };
-    going = exits-start (net-in l) (limits-in l) (a .task .budget) (a .left - 1) here (kept-of (a .totals) (a .rows)) (ready .within);
+    going = exits-start (net-in l) (limits-in l) (a .task .budget) (a .left - 1) here (kept-of (a .counts) (a .rows)) (ready .within);
   }
 
   -- the steps handed back tell whether they are past the budget
-  pub ends-by : (over : Bool) {r : Totals} (rows : List ℕ) → ltb (a .task .budget) (r .steps) ≡ over
-      → Walked (net-in l) (a .task .budget) (kept-of (a .totals) (a .rows)) (visits-from l (suc (a .left - 1)) here) over (kept-of r rows) → Ends l a r rows
+  pub ends-by : (over : Bool) {r : Counts} (rows : List ℕ) → ltb (a .task .budget) (r .steps) ≡ over
+      → Walked (net-in l) (a .task .budget) (kept-of (a .counts) (a .rows)) (visits-from l (suc (a .left - 1)) here) over (kept-of r rows) → Ends l a r rows
   ends-by over {r} rows o k =
       let n : suc (a .left - 1) ≡ a .left = omega (arith, ready .more) in
-      subst (λ n. Walked (net-in l) (a .task .budget) (kept-of (a .totals) (a .rows)) (visits-from l n here) (ltb (a .task .budget) (r .steps)) (kept-of r rows)) n
-      (subst (λ b. Walked (net-in l) (a .task .budget) (kept-of (a .totals) (a .rows)) (visits-from l (suc (a .left - 1)) here) b (kept-of r rows)) (sym o) k)
+      subst (λ n. Walked (net-in l) (a .task .budget) (kept-of (a .counts) (a .rows)) (visits-from l n here) (ltb (a .task .budget) (r .steps)) (kept-of r rows)) n
+      (subst (λ b. Walked (net-in l) (a .task .budget) (kept-of (a .counts) (a .rows)) (visits-from l (suc (a .left - 1)) here) b (kept-of r rows)) (sym o) k)
 
   -- where the budget was not passed, the steps are those of the cut tree beyond the path
-  pub ends-steps : {r : Totals} (rows : List ℕ) → Ends l a r rows → r .steps ≤ a .task .budget → r .steps ≡ a .totals .steps + length (visits-beyond l a)
+  pub ends-steps : {r : Counts} (rows : List ℕ) → Ends l a r rows → r .steps ≤ a .task .budget → r .steps ≡ a .counts .steps + length (visits-beyond l a)
   ends-steps {r} rows ends within =
       ap (λ t. t .totals .steps) (ends .totals-are (le-ltb (a .task .budget) (r .steps) within))
-      ∙ tally-steps (net-in l) (kept-of (a .totals) (a .rows)) (visits-from l (a .left) here)
-      ∙ ap (λ vs. a .totals .steps + length vs)
+      ∙ tally-steps (net-in l) (kept-of (a .counts) (a .rows)) (visits-from l (a .left) here)
+      ∙ ap (λ vs. a .counts .steps + length vs)
       (carried-is (net-in l) (limits-in l) (valid-known (model-in l) valid) (a .left) here (ready .carries)
       (omega (arith, ready .depth, path-length (net-in l) (a .path) (a .tip .len))))
 
   module _ {h : Held} (kept : AtExit l a h) where
-    pub steps-few : h .sums .steps ≤ 1000000
+    pub steps-few : h .made .steps ≤ 1000000
     steps-few = omega (arith, kept .going .within, ready .task-is .budget-high)
 
-    pub loop-end : exit-count (l .index) (a .tip .state) ≤ h .i → Ends l a (h .sums) (h .rows)
+    pub loop-end : exit-count (l .index) (a .tip .state) ≤ h .i → Ends l a (h .made) (h .rows)
     loop-end all =
-        ends-by false (h .rows) (le-ltb (a .task .budget) (h .sums .steps) (kept .going .within))
-        (exits-end (net-in l) (limits-in l) (a .task .budget) (a .left - 1) here (kept-of (a .totals) (a .rows)) (h .i) (kept-of (h .sums) (h .rows))
+        ends-by false (h .rows) (le-ltb (a .task .budget) (h .made .steps) (kept .going .within))
+        (exits-end (net-in l) (limits-in l) (a .task .budget) (a .left - 1) here (kept-of (a .counts) (a .rows)) (h .i) (kept-of (h .made) (h .rows))
         (omega (arith, count-is)) (kept .going))
 
     -- the budget is used up, and exit i is still to walk: one step more is counted
-    pub loop-over : h .i < exit-count (l .index) (a .tip .state) → h .sums .steps ≡ a .task .budget → {r : Totals}
-        → totals-of r ≡ with-step (totals-of (h .sums)) → Ends l a r (h .rows)
-    unfolding with-step
+    pub loop-over : h .i < exit-count (l .index) (a .tip .state) → h .made .steps ≡ a .task .budget → {r : Counts}
+        → r ≡ step-more (h .made) → Ends l a r (h .rows)
     loop-over more full {r} is =
-        let k = exit-over (net-in l) (limits-in l) (a .task .budget) (a .left - 1) here (kept-of (a .totals) (a .rows)) (h .i) (kept-of (h .sums) (h .rows))
+        let k = exit-over (net-in l) (limits-in l) (a .task .budget) (a .left - 1) here (kept-of (a .counts) (a .rows)) (h .i) (kept-of (h .made) (h .rows))
         (is-exit more) (kept .going) full in
-        let one : r .steps ≡ h .sums .steps + 1 = ap (λ x. x .steps) is in
+        let one : r .steps ≡ h .made .steps + 1 = ap (λ x. x .steps) is in
         ends-by true (h .rows) (lt-ltb (a .task .budget) (r .steps) (omega arith)) (record { over-is = k .over-is; totals-are = λ z. absurd (true≢false z) })

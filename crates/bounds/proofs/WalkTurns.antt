@@ -1,5 +1,5 @@
 -- One turn of the walk's loop: the exit is read, the path through it judged and noted, and walked beyond if it is continued. Assumes nothing.
-use Prim.Native.Nat.{ℕ, _+_, _-_, _≤_, _<_}
+use Prim.Native.Nat.{ℕ, _+_, _-_, _^_, _≤_, _<_}
 use mathlib.Core.Path.{_≡_, refl, sym, ap, ap₂, _∙_, subst}
 use mathlib.Core.Bool.{true, false}
 use mathlib.Core.List.{List, _∷_}
@@ -25,26 +25,26 @@ use Rattle.tree.specs.Lower.{lower}
 use Rattle.tree.specs.Tree.{Outcome, is-death, is-continued}
 use Rattle.tree.proofs.Outcomes.{is-continued-true}
 use Rattle.tree.proofs.Ranges.{any-upper-sized, prune-sized}
-use Rattle.tree.specs.Internal.Tally.{with-step, with-cut, with-death, row-with-death, noted, with-visit}
+use Rattle.tree.specs.Internal.Tally.{with-step, with-cut, with-death, noted, with-visit}
 use Rattle.tree.specs.Internal.Carried.{Carried, Carries, carry, outcome-by, outcome-next}
 use Rattle.tree.proofs.Carried.{carry-upper, carry-carries, GoesOnBy, continued-by}
 use Rattle.tree.proofs.Going.{exit-totals, exit-within, exit-ended, exit-back, exit-below-over}
 use Rattle.tables.proofs.Classes.{step-valid}
 use Rattle.path.specs.declared.outcome.Outcome.{Outcome as Coded}
-use Rattle.path.specs.declared.totals.Totals.{Totals}
+use Rattle.path.specs.declared.counts.Counts.{Counts}
 use Rattle.path.specs.declared.deaths.Cache.{Cache}
 use Rattle.path.specs.declared.exits.Exit.{Exit}
 use Rattle.path.specs.Internal.Lent.{Lent, model-in, net-in, limits-in}
 use Rattle.path.specs.Internal.Paths.{path-of}
-use Rattle.path.specs.Internal.Totals.{totals-of, Counted}
-use Rattle.rows.specs.Internal.Table.{totals-in, NamesKept, RowRoom}
-use Rattle.rows.proofs.RowTotals.{row-counted, row-room, names-then}
+use Rattle.path.specs.Internal.Counts.{Few, death-more, cut-more, step-more}
+use Rattle.rows.specs.Internal.Table.{NamesKept, DeathNoted, CutNoted, TableGathered}
+use Rattle.rows.proofs.RowTotals.{names-then, table-room, table-death, table-cut}
 use Rattle.path.specs.Internal.Outcomes.{outcome-of, judged}
 use Rattle.path.specs.Internal.Exits.{tip-after, ExitOf}
 use Rattle.path.specs.Internal.Deaths.{LastStep, Cached}
-use Rattle.bounds.specs.Internal.Walk.{Asked, asked, carried-of, carried-in, kept-of, KeptCounted, Ready, Ends, EndsOver, visits-from}
+use Rattle.bounds.specs.Internal.Walk.{Asked, asked, carried-of, carried-in, totals-of, kept-of, KeptCounted, Ready, Ends, EndsOver, visits-from}
 use Rattle.path.proofs.PathArrays.{below-same, path-longer, known-longer}
-use Rattle.path.proofs.TotalsNoted.{note-death, note-step, note-cut}
+use Rattle.path.proofs.VisitNoted.{note-death, note-step, note-cut}
 use Rattle.bounds.proofs.WalkLoop.{Held, held, AtExit, step-counted, state-small, room, path-short, steps-valid, is-exit, ends-by}
 
 module _ (l : Lent) (a : Asked) (h : Held) (x : Exit) where
@@ -53,7 +53,7 @@ module _ (l : Lent) (a : Asked) (h : Held) (x : Exit) where
     pub ready : Ready l a
     pub kept : AtExit l a h
     pub more : h .i < exit-count (l .index) (a .tip .state)
-    pub some : h .sums .steps ≡ a .task .budget → ⊥
+    pub some : h .made .steps ≡ a .task .budget → ⊥
     pub exit : ExitOf l (a .tip) (h .i) x
 
   -- the outcome that the path through it is judged to have
@@ -69,10 +69,10 @@ module _ (l : Lent) (a : Asked) (h : Held) (x : Exit) where
   lower-there = lower (net-in l) (transition (net-in l) (x .index) ∷ path-before)
 
   -- the path through it was judged and noted
-  pub record Visited (o : Coded) (after : Totals) (cache : Cache) (rows : List ℕ) : Type 0 where
+  pub record Visited (o : Coded) (after : Counts) (cache : Cache) (rows : List ℕ) : Type 0 where
     pub turn : Turn
     pub judged-is : outcome-of o ≡ judged-there
-    pub kept-is : kept-of after rows ≡ noted (kept-of (h .sums) (h .rows)) (outcome-of o) (x .tip .state) lower-there (x .tip .upper)
+    pub kept-is : kept-of after rows ≡ noted (kept-of (h .made) (h .rows)) (outcome-of o) (x .tip .state) lower-there (x .tip .upper)
     pub cached : Cached (net-in l) path-before (a .tip .state) cache
     pub counted : KeptCounted after rows
     pub names-kept : NamesKept (h .rows) rows
@@ -159,71 +159,93 @@ module _ {l : Lent} {a : Asked} {h : Held} {x : Exit} (w : Turn l a h x) where
     leaves = sym leaves;
   }
 
-  some-left : h .sums .steps < 1000000
+  some-left : h .made .steps < 1000000
   some-left = omega (arith, w .kept .going .within, w .some, w .ready .task-is .budget-high)
 
   upper-fits : Sized 9 35000 (x .tip .upper)
   upper-fits = sized-≤ (lit≤ tt) upper-sized
 
-  pub note-figures : Counted (h .sums) × (h .sums .steps < 1000000) × Sized 9 35000 (x .tip .upper)
-  note-figures = (w .kept .counted .totals, some-left, upper-fits)
+  -- an ended path may be counted, and added to the totals
+  pub count-figures : Few (h .made) × (h .made .steps < 1000000)
+  count-figures = (w .kept .counted .counts, some-left)
 
-  -- a row may have one term more
-  pub row-figures : (x .tip .state ≤ 1000) × (length (h .rows) ≡ 5006) × RowRoom (totals-in (h .rows) (x .tip .state))
-  row-figures = (there-small, w .kept .counted .size, row-room some-left (w .kept .counted .each-row (x .tip .state)))
+  pub note-figures : TableGathered 999999 (h .rows) × Sized 9 35000 (x .tip .upper)
+  note-figures = (table-room (w .kept .counted .totals) some-left, upper-fits)
+
+  terms : h .made .steps < 10 ^ 9
+  terms = le-trans some-left (lit≤ tt)
 
   -- ---- the path through it is noted
 
-  module _ (o : Coded) (is : outcome-of o ≡ judged-there l a h x) {after : Totals} (counted : Counted after) where
+  module _ (o : Coded) (is : outcome-of o ≡ judged-there l a h x) {after : Counts} where
     -- as a death, of the lower f
-    pub death-noted : is-death (outcome-of o) ≡ true → {f : Figure} → Sized 9 35000 f → f ≡ lower-there l a h x
-        → totals-of after ≡ with-death (totals-of (h .sums)) f (x .tip .upper)
-        → {rows : List ℕ} → totals-in rows ≡ row-with-death (totals-in (h .rows)) (x .tip .state) f (x .tip .upper) → NamesKept (h .rows) rows
+    pub death-noted : is-death (outcome-of o) ≡ true → {f : Figure} → Sized 9 35000 f → f ≡ lower-there l a h x → after ≡ death-more (h .made)
+        → {rows : List ℕ} → DeathNoted (x .tip .state) f (x .tip .upper) (h .rows) rows
         → {cache : Cache} → Cached net (path-before l a h x) (a .tip .state) cache → Visited l a h x o after cache rows
     unfolding with-death
-    death-noted on {f} low f-is more {rows} more-rows names cached =
-        let one : after .steps ≡ h .sums .steps + 1 = ap (λ t. t .steps) more in
-        record {
-          turn = w;
-          judged-is = is;
-          kept-is = note-death _ _ _ _ _ more more-rows f-is on;
-          cached = cached;
-          counted = record {
-            totals = counted;
-            each-row = λ s. rw (one, more-rows)
-                (row-counted (totals-in (h .rows)) (x .tip .state) f (x .tip .upper) (le-trans some-left (lit≤ tt)) low upper-fits (w .kept .counted .each-row) s);
-            size = names .size ∙ w .kept .counted .size;
-          };
-          names-kept = names;
-        }
-
-    -- as what changes no row
-    other-noted : after .steps ≡ h .sums .steps + 1
-        → kept-of after (h .rows) ≡ noted (kept-of (h .sums) (h .rows)) (outcome-of o) (x .tip .state) (lower-there l a h x) (x .tip .upper)
-        → Visited l a h x o after (h .cache) (h .rows)
-    other-noted one more = record {
+    death-noted on {f} low f-is more {rows} k cached = record {
       turn = w;
       judged-is = is;
-      kept-is = more;
+      kept-is = note-death _ _ _ _ _ same (k .rows-are) f-is on;
+      cached = cached;
+      counted = rw more (record {
+        counts = record { deaths = omega (arith, w .kept .counted .counts .deaths); cuts = omega (arith, w .kept .counted .counts .cuts) };
+        totals = table-death (w .kept .counted .totals) terms upper-fits low k;
+      });
+      names-kept = k .names-kept;
+    }
+      where
+        same : totals-of after rows ≡ with-death (totals-of (h .made) (h .rows)) f (x .tip .upper)
+        same = rw more (λ i. record {
+          lower = k .lower-is i;
+          death-upper = k .death-is i;
+          cut-upper = k .cut-same i;
+          deaths = h .made .deaths + 1;
+          cuts = h .made .cuts;
+          steps = h .made .steps + 1;
+        })
+
+    -- as a step that ends no path
+    pub step-noted : is-continued (outcome-of o) ≡ true → after ≡ step-more (h .made) → Visited l a h x o after (h .cache) (h .rows)
+    unfolding with-step
+    step-noted on more = record {
+      turn = w;
+      judged-is = is;
+      kept-is = note-step _ _ _ _ _ (ap (λ c. totals-of c (h .rows)) more) refl on;
       cached = w .kept .cached;
-      counted = step-counted counted one (w .kept .counted);
+      counted = step-counted more (w .kept .counted);
       names-kept = record { size = refl; same = λ i low. refl };
     }
 
-    -- as a step that ends no path
-    pub step-noted : is-continued (outcome-of o) ≡ true → totals-of after ≡ with-step (totals-of (h .sums)) → Visited l a h x o after (h .cache) (h .rows)
-    unfolding with-step
-    step-noted on more = other-noted (ap (λ t. t .steps) more) (note-step _ _ _ _ _ more refl on)
-
     -- as a cut
-    pub cut-noted : is-death (outcome-of o) ≡ false → is-continued (outcome-of o) ≡ false
-        → totals-of after ≡ with-cut (totals-of (h .sums)) (x .tip .upper) → Visited l a h x o after (h .cache) (h .rows)
+    pub cut-noted : is-death (outcome-of o) ≡ false → is-continued (outcome-of o) ≡ false → after ≡ cut-more (h .made)
+        → {rows : List ℕ} → CutNoted (x .tip .upper) (h .rows) rows → Visited l a h x o after (h .cache) rows
     unfolding with-cut
-    cut-noted off ended more = other-noted (ap (λ t. t .steps) more) (note-cut _ _ _ _ _ more refl off ended)
+    cut-noted off ended more {rows} k = record {
+      turn = w;
+      judged-is = is;
+      kept-is = note-cut _ _ _ _ _ same (k .rows-same) off ended;
+      cached = w .kept .cached;
+      counted = rw more (record {
+        counts = record { deaths = omega (arith, w .kept .counted .counts .deaths); cuts = omega (arith, w .kept .counted .counts .cuts) };
+        totals = table-cut (w .kept .counted .totals) terms upper-fits k;
+      });
+      names-kept = k .names-kept;
+    }
+      where
+        same : totals-of after rows ≡ with-cut (totals-of (h .made) (h .rows)) (x .tip .upper)
+        same = rw more (λ i. record {
+          lower = k .lower-same i;
+          death-upper = k .death-same i;
+          cut-upper = k .cut-is i;
+          deaths = h .made .deaths;
+          cuts = h .made .cuts + 1;
+          steps = h .made .steps + 1;
+        })
 
 -- ---- the visit
 
-module _ {l : Lent} {a : Asked} {h : Held} {x : Exit} {o : Coded} {after : Totals} {cache : Cache} {rows : List ℕ} (v : Visited l a h x o after cache rows) where
+module _ {l : Lent} {a : Asked} {h : Held} {x : Exit} {o : Coded} {after : Counts} {cache : Cache} {rows : List ℕ} (v : Visited l a h x o after cache rows) where
   abbrev w : Turn l a h x
   w = v .turn
 
@@ -250,15 +272,15 @@ module _ {l : Lent} {a : Asked} {h : Held} {x : Exit} {o : Coded} {after : Total
       cc (v .judged-is)
 
   visit-is : kept-of after rows
-      ≡ with-visit (net w) (kept-of (h .sums) (h .rows)) (record { path = exit w ∷ path-before l a h x; outcome = outcome-there w })
+      ≡ with-visit (net w) (kept-of (h .made) (h .rows)) (record { path = exit w ∷ path-before l a h x; outcome = outcome-there w })
   visit-is =
       v .kept-is
       ∙ same
-      ∙ exit-totals (net w) (limits-in l) (a .task .budget) (a .left - 1) (here w) (kept-of (a .totals) (a .rows)) (h .i) (kept-of (h .sums) (h .rows)) on-exit
+      ∙ exit-totals (net w) (limits-in l) (a .task .budget) (a .left - 1) (here w) (kept-of (a .counts) (a .rows)) (h .i) (kept-of (h .made) (h .rows)) on-exit
       (w .kept .going) (to-small w) (w .ready .carries)
     where
-      same : noted (kept-of (h .sums) (h .rows)) (outcome-of o) (x .tip .state) (lower-there l a h x) (x .tip .upper)
-          ≡ noted (kept-of (h .sums) (h .rows)) (outcome-there w) (exit w .to) (lower (net w) (exit w ∷ path-before l a h x)) (next w .upper)
+      same : noted (kept-of (h .made) (h .rows)) (outcome-of o) (x .tip .state) (lower-there l a h x) (x .tip .upper)
+          ≡ noted (kept-of (h .made) (h .rows)) (outcome-there w) (exit w .to) (lower (net w) (exit w ∷ path-before l a h x)) (next w .upper)
       same =
           let p = outcome-is in
           let q = exit-is w in
@@ -275,8 +297,8 @@ module _ {l : Lent} {a : Asked} {h : Held} {x : Exit} {o : Coded} {after : Total
     cached = v .cached;
     counted = v .counted;
     names-kept = names-then (w .kept .names-kept) (v .names-kept);
-    going = rw (add-one (h .i)) (exit-ended (net w) (limits-in l) (a .task .budget) (a .left - 1) (here w) (kept-of (a .totals) (a .rows)) (h .i)
-        (kept-of (h .sums) (h .rows)) on-exit (w .kept .going) (kept-of after rows) visit-is (w .some) (ap is-continued (sym outcome-is) ∙ off));
+    going = rw (add-one (h .i)) (exit-ended (net w) (limits-in l) (a .task .budget) (a .left - 1) (here w) (kept-of (a .counts) (a .rows)) (h .i)
+        (kept-of (h .made) (h .rows)) on-exit (w .kept .going) (kept-of after rows) visit-is (w .some) (ap is-continued (sym outcome-is) ∙ off));
   }
 
   -- the path goes on: its last state is entered once more, and its step is written down
@@ -322,7 +344,7 @@ module _ {l : Lent} {a : Asked} {h : Held} {x : Exit} {o : Coded} {after : Total
       depth = omega (arith, len-is w, w .ready .depth, w .ready .more);
       more = goes-on .left;
       counted = v .counted;
-      within = exit-within (net w) (limits-in l) (a .task .budget) (a .left - 1) (here w) (kept-of (a .totals) (a .rows)) (h .i) (kept-of (h .sums) (h .rows)) on-exit
+      within = exit-within (net w) (limits-in l) (a .task .budget) (a .left - 1) (here w) (kept-of (a .counts) (a .rows)) (h .i) (kept-of (h .made) (h .rows)) on-exit
           (w .kept .going) (kept-of after rows) visit-is (w .some);
     }
 
@@ -330,14 +352,14 @@ module _ {l : Lent} {a : Asked} {h : Held} {x : Exit} {o : Coded} {after : Total
     continues = ap is-continued (sym outcome-is) ∙ on
 
     -- r is what the walk beyond hands back, and rows′ the table of rows then
-    module _ {r : Totals} (rows′ : List ℕ) (ends : Ends l asked-there r rows′) where
+    module _ {r : Counts} (rows′ : List ℕ) (ends : Ends l asked-there r rows′) where
       beyond : EndsOver (net w) (a .task .budget) (kept-of after rows) (visits-from l (a .left - 1) (next w)) r rows′
       beyond = subst (λ k. EndsOver (net w) (a .task .budget) (kept-of after rows) (visits-from l (a .left - 1) k) r rows′) deeper ends
 
       pub visit-over : a .task .budget < r .steps → Ends l a r rows′
       visit-over past =
           ends-by (w .ready) (ltb (a .task .budget) (r .steps)) rows′ refl
-          (exit-below-over (net w) (limits-in l) (a .task .budget) (a .left - 1) (here w) (kept-of (a .totals) (a .rows)) (h .i) (kept-of (h .sums) (h .rows)) on-exit
+          (exit-below-over (net w) (limits-in l) (a .task .budget) (a .left - 1) (here w) (kept-of (a .counts) (a .rows)) (h .i) (kept-of (h .made) (h .rows)) on-exit
           (w .kept .going) (kept-of after rows) visit-is (w .some) continues (ltb (a .task .budget) (r .steps)) (kept-of r rows′) beyond
           (lt-ltb (a .task .budget) (r .steps) past))
 
@@ -354,7 +376,7 @@ module _ {l : Lent} {a : Asked} {h : Held} {x : Exit} {o : Coded} {after : Total
         cached = v .cached;
         counted = counted;
         names-kept = names-then (names-then (w .kept .names-kept) (v .names-kept)) names;
-        going = rw (add-one (h .i)) (exit-back (net w) (limits-in l) (a .task .budget) (a .left - 1) (here w) (kept-of (a .totals) (a .rows)) (h .i)
-            (kept-of (h .sums) (h .rows)) on-exit (w .kept .going) (kept-of after rows) visit-is (w .some) continues (ltb (a .task .budget) (r .steps))
+        going = rw (add-one (h .i)) (exit-back (net w) (limits-in l) (a .task .budget) (a .left - 1) (here w) (kept-of (a .counts) (a .rows)) (h .i)
+            (kept-of (h .made) (h .rows)) on-exit (w .kept .going) (kept-of after rows) visit-is (w .some) continues (ltb (a .task .budget) (r .steps))
             (kept-of r rows′) beyond (le-ltb (a .task .budget) (r .steps) within));
       }

@@ -1,13 +1,11 @@
 // From a model's words to a report: the index and the tables, the walk over the cut tree, the answer and the rows.
 ghost use mathlib.Core.Path.{_≡_};
 ghost use Prim.Native.Nat.{_≤_};
-ghost use lib.ListN.{length};
 ghost use Rattle.model.specs.Promise.{summary};
 ghost use Rattle.tree.specs.Internal.Tally as running;
 ghost use Rattle.tables.specs.Internal.Described.{Indexes, described};
-ghost use Rattle.path.specs.Internal.Totals.{Counted, totals-of};
-ghost use Rattle.rows.specs.Internal.Table.{totals-in};
-ghost use Rattle.bounds.specs.Internal.Walk.{WalkedTree};
+ghost use Rattle.rows.specs.Internal.Table.{NoTotals, TableGathered};
+ghost use Rattle.bounds.specs.Internal.Walk.{WalkedTree, totals-of};
 ghost use Rattle.bounds.specs.Internal.Measured.{Measured};
 ghost use Rattle.bounds.specs.Answers.{Promised, report-of};
 ghost use Rattle.bounds.specs.Rows.{PromisedRows};
@@ -18,13 +16,14 @@ use model::Accepted;
 use model::Reading;
 use model::index::Index;
 use model::read;
+use path::counts::Counts;
+use path::counts::nothing;
 use path::exits::Tip;
-use path::totals::Totals;
-use path::totals::nothing;
 use rows::fill_rows;
 use rows::names::clear;
 use rows::names::name_rows;
 use rows::table::RowTable;
+use rows::table::total_at;
 use tables::figures::figure_of;
 use tables::fill;
 use tables::table::Table;
@@ -48,10 +47,10 @@ pub enum Answer {
     Refused(Refusal),
 }
 
-// The totals of the walk over the tree of an accepted model, or totals whose steps are above the budget; those of rows are kept in `rows`.
-fn walked(words: &[u32], index: &Index, a: Accepted, budget: u64, rows: &mut RowTable) -> Totals
+// The counts of the walk over the tree of an accepted model, or counts whose steps are above the budget; all totals are kept in `rows`.
+fn walked(words: &[u32], index: &Index, a: Accepted, budget: u64, rows: &mut RowTable) -> Counts
     requires { ⌜ Indexes (now words) (now index) × (a ≡ summary (described (now words))) × (budget ≤ 1000000) ⌝ }
-    requires { ⌜ (length (now rows) ≡ 5006) × (totals-in (now rows) ≡ running.zero-row-totals) ⌝ }
+    requires { ⌜ NoTotals (now rows) ⌝ }
     ensures { λ r. ⌜ WalkedTree (now (words .entry)) budget r (now (rows .entry)) (now (rows .exit)) ⌝ }
 {
     let mut table: Table = [0; 16004];
@@ -89,13 +88,13 @@ fn walked(words: &[u32], index: &Index, a: Accepted, budget: u64, rows: &mut Row
 }
 
 // The figures to nine digits.
-fn reported(t: Totals) -> Report
-    requires { ⌜ Counted t × (t .steps ≤ 1000000) ⌝ }
-    ensures { λ r. ⌜ report-of r ≡ running.finish (totals-of t) ⌝ }
+fn reported(c: Counts, rows: &RowTable) -> Report
+    requires { ⌜ TableGathered 1000000 (now rows) ⌝ }
+    ensures { λ r. ⌜ report-of r ≡ running.finish (totals-of c (now (rows .entry))) ⌝ }
 {
-    let lowers = t.lower;
-    let died = t.died;
-    let cut_off = t.cut;
+    let lowers = total_at(rows, 1002);
+    let died = total_at(rows, 1004);
+    let cut_off = total_at(rows, 1006);
     let lower = lowers.to_nine_down();
     let upper = died.sum_to_nine_up(cut_off);
     let cut = cut_off.to_nine_up();
@@ -103,9 +102,9 @@ fn reported(t: Totals) -> Report
         lower,
         upper,
         cut,
-        deaths: t.deaths,
-        cuts: t.cuts,
-        steps: t.steps,
+        deaths: c.deaths,
+        cuts: c.cuts,
+        steps: c.steps,
     }
 }
 
@@ -125,12 +124,12 @@ fn measured(words: &[u32], budget: u64, lent: usize, rows: &mut RowTable) -> Ans
                 clear(rows);
                 return Answer::Refused(Refusal::TooFewRows(needed));
             }
-            let t = walked(words, &index, a, budget, rows);
-            if budget < t.steps {
+            let c = walked(words, &index, a, budget, rows);
+            if budget < c.steps {
                 name_rows(words, &index, a, rows);
                 return Answer::Refused(Refusal::OverBudget);
             }
-            Answer::Report(reported(t))
+            Answer::Report(reported(c, rows))
         }
     }
 }
@@ -140,7 +139,7 @@ fn measured(words: &[u32], budget: u64, lent: usize, rows: &mut RowTable) -> Ans
 pub fn unreliability(words: &[u32], budget: u64) -> Answer
     ensures { λ r. ⌜ Promised (now (words .entry)) (now (words .exit)) budget r ⌝ }
 {
-    let mut rows: RowTable = [0; 5006];
+    let mut rows: RowTable = [0; 5012];
     measured(words, budget, 1000, &mut rows)
 }
 
@@ -149,7 +148,7 @@ pub fn unreliability(words: &[u32], budget: u64) -> Answer
 pub fn unreliability_by_state(words: &[u32], budget: u64, rows: &mut [Row]) -> Answer
     ensures { λ r. ⌜ PromisedRows (now (words .entry)) (now (words .exit)) budget (now (rows .entry)) (now (rows .exit)) r ⌝ }
 {
-    let mut table: RowTable = [0; 5006];
+    let mut table: RowTable = [0; 5012];
     let lent = rows.len();
     let answer = measured(words, budget, lent, &mut table);
     fill_rows(rows, &table);

@@ -4,6 +4,10 @@ ghost use Rattle.bounds.specs.Internal.Walk.{Ready, WalkedBeyond, asked}
 use figure::Figure;
 use model::index::Index;
 use model::index::exit_count;
+use path::counts::Counts;
+use path::counts::with_cut;
+use path::counts::with_death;
+use path::counts::with_step;
 use path::deaths::death;
 use path::deaths::no_cache;
 use path::exits::Tip;
@@ -11,12 +15,9 @@ use path::exits::exit_at;
 use path::outcome::is_continued;
 use path::outcome::is_death;
 use path::outcome::judge;
-use path::totals::Totals;
-use path::totals::with_cut;
-use path::totals::with_death;
-use path::totals::with_step;
 use rows::table::RowTable;
-use rows::table::note;
+use rows::table::note_cut;
+use rows::table::note_death;
 use tables::table::Table;
 
 // What stays the same in a walk: the mission time, the prune level, the entry limit and the budget.
@@ -27,8 +28,8 @@ pub(crate) struct Task {
     pub budget: u64,
 }
 
-// Walks every exit of the tip's state. `left` is the number of steps that the path may still take. It hands back the totals with the steps taken,
-// keeps those of each state's row in `rows`, and stops at the first step past the budget.
+// Walks every exit of the tip's state. `left` is the number of steps that the path may still take. It hands back the counts with the steps taken,
+// keeps all totals in `rows`, and stops at the first step past the budget.
 pub(crate) fn walk(
     words: &[u32],
     index: &Index,
@@ -38,16 +39,16 @@ pub(crate) fn walk(
     left: usize,
     entries: [u8; 1001],
     path: [u16; 24],
-    totals: Totals,
+    counts: Counts,
     rows: &mut RowTable,
-) -> Totals
-    requires { ⌜ Ready (lent (now words) (now index) (now table)) (asked task tip left entries path totals (now rows)) ⌝ }
-    ensures { λ r. ⌜ WalkedBeyond (lent (now (words .entry)) (now (index .entry)) (now (table .entry))) (asked task tip left entries path totals (now (rows .entry))) r (now (rows .exit)) ⌝ }
+) -> Counts
+    requires { ⌜ Ready (lent (now words) (now index) (now table)) (asked task tip left entries path counts (now rows)) ⌝ }
+    ensures { λ r. ⌜ WalkedBeyond (lent (now (words .entry)) (now (index .entry)) (now (table .entry))) (asked task tip left entries path counts (now (rows .entry))) r (now (rows .exit)) ⌝ }
 {
     let nth = Figure::of_whole(tip.ones + 1);
     let mut entered = entries;
     let mut taken = path;
-    let mut sums = totals;
+    let mut made = counts;
     let mut cache = no_cache();
     let time = task.time;
     let level = task.level;
@@ -55,8 +56,8 @@ pub(crate) fn walk(
     let count = exit_count(index, tip.state);
     let mut i: usize = 0;
     while i < count {
-        if sums.steps == task.budget {
-            return with_step(sums);
+        if made.steps == task.budget {
+            return with_step(made);
         }
         let exit = exit_at(words, index, table, time, tip, nth, i);
         let next = exit.tip;
@@ -69,13 +70,13 @@ pub(crate) fn walk(
             let died = death(words, index, table, time, path, tip, nth, exit, cache);
             let lower = died.lower;
             cache = died.cache;
-            sums = with_death(sums, lower, upper);
-            note(rows, to, lower, upper);
+            made = with_death(made);
+            note_death(rows, to, lower, upper);
         } else if is_continued(o) {
-            sums = with_step(sums);
+            made = with_step(made);
             entered[to] = before + 1;
             taken[len] = exit.index;
-            sums = walk(
+            made = walk(
                 words,
                 index,
                 table,
@@ -84,17 +85,18 @@ pub(crate) fn walk(
                 left - 1,
                 entered,
                 taken,
-                sums,
+                made,
                 rows,
             );
             entered[to] = before;
-            if task.budget < sums.steps {
-                return sums;
+            if task.budget < made.steps {
+                return made;
             }
         } else {
-            sums = with_cut(sums, upper);
+            made = with_cut(made);
+            note_cut(rows, upper);
         }
         i += 1;
     }
-    sums
+    made
 }

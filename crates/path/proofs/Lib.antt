@@ -1,5 +1,4 @@
-pub mod TotalsRange
-pub mod TotalsNoted
+pub mod VisitNoted
 pub mod ExitTips
 pub mod ExitReading
 pub mod PathSums

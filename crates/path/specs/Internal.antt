@@ -1,6 +1,6 @@
 pub mod Lent
 pub mod Paths
-pub mod Totals
+pub mod Counts
 pub mod Outcomes
 pub mod Exits
 pub mod Deaths

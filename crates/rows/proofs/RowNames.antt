@@ -18,9 +18,8 @@ use Rattle.model.proofs.Slots.{word, stands-to}
 use Rattle.tables.proofs.Classes.{step-valid}
 use Rattle.tree.specs.Paths.{one-if}
 use Rattle.tree.specs.Rows.{has-row, numbers-from, row-states}
-use Rattle.tree.specs.Internal.Tally.{zero-row-totals}
 use Rattle.tables.specs.Internal.Described.{Indexes, described, net-of}
-use Rattle.rows.specs.Internal.Table.{row-state, totals-in, total-of}
+use Rattle.rows.specs.Internal.Table.{row-state}
 use Rattle.rows.specs.Internal.Names.{target-among, Targets, marked, listed, Listed, Named}
 
 -- ---- targets
@@ -131,7 +130,7 @@ unfolding listed
 listed-begin = record { count-is = refl; states-are = λ i h. absurd (omega (arith, h)); size = refl; behind = λ i h. refl }
 
 -- The table after the states from 1 to n were looked at: k of them were written.
-module _ {index targets before after : List ℕ} {n k : ℕ} (few : n < 1000) (size : length before ≡ 5006) (h : Listed index targets n before after k) where
+module _ {index targets before after : List ℕ} {n k : ℕ} (few : n < 1000) (size : length before ≡ 5012) (h : Listed index targets n before after k) where
   listed-few : (i : ℕ) → length (listed index targets i) ≤ i
   unfolding listed
   listed-few zero = omega arith
@@ -216,7 +215,7 @@ module _ {ws index : List ℕ} (indexes : Indexes ws index) {targets : List ℕ}
       ∙ ap (λ l. only (has-row net) l) (ap (λ (x : ℕ). numbers-from n 1 ++ (x ∷ [])) (omega arith) ∙ sym (numbers-last n 1))
 
   -- a table of zeros, with the states written and then their number
-  module _ {before after : List ℕ} {n : ℕ} (cleared : before ≡ replicate 5006 0)
+  module _ {before after : List ℕ} {n : ℕ} (cleared : before ≡ replicate 5012 0)
       (h : Listed index targets ((described ws) .states) before after n) where
     listed-all : listed index targets ((described ws) .states) ≡ row-states (described ws)
     unfolding row-states
@@ -224,23 +223,15 @@ module _ {ws index : List ℕ} (indexes : Indexes ws index) {targets : List ℕ}
 
     zero-behind : (i : ℕ) → 1002 ≤ i → getD (set after 0 n) i 0 ≡ 0
     zero-behind i far =
-        getD-set-other after 0 i n 0 (λ e. absurd (omega (arith, e))) ∙ h .behind i far ∙ ap (λ l. getD l i 0) cleared ∙ all-zero 5006 i
-
-    no-total : (s : ℕ) → totals-in (set after 0 n) s ≡ zero-row-totals s
-    unfolding totals-in total-of
-    no-total s = λ i. record {
-      lower = total-of (zero-behind (1002 + s * 4) (omega arith) i) (zero-behind (1002 + s * 4 + 1) (omega arith) i);
-      upper = total-of (zero-behind (1002 + s * 4 + 2) (omega arith) i) (zero-behind (1002 + s * 4 + 2 + 1) (omega arith) i);
-    }
+        getD-set-other after 0 i n 0 (λ e. absurd (omega (arith, e))) ∙ h .behind i far ∙ ap (λ l. getD l i 0) cleared ∙ all-zero 5012 i
 
     pub named : Named (described ws) (set after 0 n) n
     named = record {
       count-is = h .count-is ∙ ap length listed-all;
-      size = length-set after 0 n ∙ long;
       stands = getD-set-same after 0 n 0 (omega (arith, long));
       states-are = λ i low. getD-set-other after 0 (i + 1) n 0 (λ e. absurd (omega (arith, e))) ∙ h .states-are i low ∙ ap (λ l. getD l i 0) listed-all;
-      no-totals = λ i s. no-total s i;
+      no-totals = record { size = length-set after 0 n ∙ long; zeros = zero-behind };
     }
       where
-        long : length after ≡ 5006
+        long : length after ≡ 5012
         long = h .size ∙ ap length cleared

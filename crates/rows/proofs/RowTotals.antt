@@ -18,10 +18,11 @@ use Rattle.figure.specs.Operands.{Sized, Operand}
 use Rattle.figure.specs.Operations.{total-up, total-down}
 use Rattle.figure.proofs.Stored.{stored, kept, mag-difference}
 use Rattle.figure.proofs.Gathered.{gathered-more}
-use Rattle.tree.specs.Internal.Tally.{RowTotals, row-totals-with, row-with-death}
+use Rattle.tree.specs.Internal.Tally.{RowTotals, row-totals-with, row-with-death, zero-row-totals}
 use Rattle.tree.proofs.Ranges.{total-up-more, total-down-more, total-same, total-operand}
+use Rattle.tree.proofs.Ranges.{total-none as no-total}
 use Rattle.tables.proofs.Packed.{raised-back}
-use Rattle.rows.specs.Internal.Table.{total-of, total-in, totals-in, Put, NamesKept, RowGathered, RowRoom}
+use Rattle.rows.specs.Internal.Table.{total-of, total-in, totals-in, Put, NamesKept, DeathNoted, CutNoted, NoTotals, TotalOf, RowGathered, TableGathered}
 
 -- ---- one total
 
@@ -76,11 +77,15 @@ module _ (table : List ℕ) (at : ℕ) (inside : at + 1 < length table) (f : Fig
         getD-set-other (set table at (f .digits)) (at + 1) i r 0 m ∙ getD-set-other table at i (f .digits) 0 n;
   }
 
+-- the same total by another name
+pub put-same : {at : ℕ} {f g : Figure} {before after : List ℕ} → f ≡ g → Put at f before after → Put at g before after
+put-same e put = record { total-is = put .total-is ∙ e; size = put .size; elsewhere = put .elsewhere }
+
 -- ---- one death path more
 
-module _ {before mid after : List ℕ} (s : ℕ) {f g : Figure} (first : Put (1002 + s * 4) f before mid) (second : Put (1002 + s * 4 + 2) g mid after) where
+module _ {before mid after : List ℕ} (s : ℕ) {f g : Figure} (first : Put (1008 + s * 4) f before mid) (second : Put (1008 + s * 4 + 2) g mid after) where
   abbrev at : ℕ
-  at = 1002 + s * 4
+  at = 1008 + s * 4
 
   -- what stands before and behind the state's totals is as it was
   in-front : (i : ℕ) → i < at → getD after i 0 ≡ getD before i 0
@@ -117,12 +122,12 @@ module _ {before mid after : List ℕ} (s : ℕ) {f g : Figure} (first : Put (10
     here = λ i. record { lower = (lower-there ∙ low) i; upper = (second .total-is ∙ high) i }
 
     -- another state's totals
-    other : (q : ℕ) → ((i : ℕ) → 1002 + q * 4 ≤ i → i ≤ 1002 + q * 4 + 3 → getD after i 0 ≡ getD before i 0) → totals-in after q ≡ totals-in before q
+    other : (q : ℕ) → ((i : ℕ) → 1008 + q * 4 ≤ i → i ≤ 1008 + q * 4 + 3 → getD after i 0 ≡ getD before i 0) → totals-in after q ≡ totals-in before q
     unfolding totals-in
     other q same =
         λ i. record {
-          lower = total-of (same (1002 + q * 4) (omega arith) (omega arith) i) (same (1002 + q * 4 + 1) (omega arith) (omega arith) i);
-          upper = total-of (same (1002 + q * 4 + 2) (omega arith) (omega arith) i) (same (1002 + q * 4 + 2 + 1) (omega arith) (omega arith) i);
+          lower = total-of (same (1008 + q * 4) (omega arith) (omega arith) i) (same (1008 + q * 4 + 1) (omega arith) (omega arith) i);
+          upper = total-of (same (1008 + q * 4 + 2) (omega arith) (omega arith) i) (same (1008 + q * 4 + 2 + 1) (omega arith) (omega arith) i);
         }
 
     at-each : (q : ℕ) → totals-in after q ≡ row-with-death (totals-in before) s l u q
@@ -142,23 +147,80 @@ module _ {before mid after : List ℕ} (s : ℕ) {f g : Figure} (first : Put (10
     pub note-totals : totals-in after ≡ row-with-death (totals-in before) s l u
     note-totals = λ i q. at-each q i
 
+-- ---- other totals, when one is written
+
+module _ {before after : List ℕ} {at : ℕ} {f : Figure} (put : Put at f before after) where
+  pub total-below : (p : ℕ) → p + 1 < at → total-in after p ≡ total-in before p
+  total-below p h =
+      ap₂ total-of
+      (put .elsewhere p (λ e. absurd (omega (arith, e))) (λ e. absurd (omega (arith, e))))
+      (put .elsewhere (p + 1) (λ e. absurd (omega (arith, e))) (λ e. absurd (omega (arith, e))))
+
+  pub total-behind : (p : ℕ) → at + 1 < p → total-in after p ≡ total-in before p
+  total-behind p h =
+      ap₂ total-of
+      (put .elsewhere p (λ e. absurd (omega (arith, e))) (λ e. absurd (omega (arith, e))))
+      (put .elsewhere (p + 1) (λ e. absurd (omega (arith, e))) (λ e. absurd (omega (arith, e))))
+
+  pub put-names : 1002 ≤ at → NamesKept before after
+  put-names h = record {
+    size = put .size;
+    same = λ i low. put .elsewhere i (λ e. absurd (omega (arith, e))) (λ e. absurd (omega (arith, e)));
+  }
+
+  -- a total of the report's: no row is touched
+  pub rows-stay : at + 1 < 1008 → totals-in after ≡ totals-in before
+  unfolding totals-in
+  rows-stay h = λ i q. record {
+    lower = total-behind (1008 + q * 4) (omega arith) i;
+    upper = total-behind (1008 + q * 4 + 2) (omega arith) i;
+  }
+
+pub names-then : {a b c : List ℕ} → NamesKept a b → NamesKept b c → NamesKept a c
+names-then h k = record { size = k .size ∙ h .size; same = λ i low. k .same i low ∙ h .same i low }
+
+pub cut-noted : {before after : List ℕ} {u : Figure} → Put 1006 (total-up (total-in before 1006) u) before after → CutNoted u before after
+cut-noted put = record {
+  lower-same = total-below put 1002 (omega arith);
+  death-same = total-below put 1004 (omega arith);
+  cut-is = put .total-is;
+  rows-same = rows-stay put (omega arith);
+  names-kept = put-names put (omega arith);
+}
+
+-- the four totals of a death, one after the other
+module _ {t0 t1 t2 t3 t4 : List ℕ} (s : ℕ) (l u : Figure) (first : Put 1002 (total-down (total-in t0 1002) l) t0 t1)
+    (second : Put 1004 (total-up (total-in t1 1004) u) t1 t2) (third : Put (1008 + s * 4) (total-down (total-in t2 (1008 + s * 4)) l) t2 t3)
+    (fourth : Put (1008 + s * 4 + 2) (total-up (total-in t3 (1008 + s * 4 + 2)) u) t3 t4) where
+  pub death-noted : DeathNoted s l u t0 t4
+  death-noted = record {
+    lower-is = total-below fourth 1002 (omega arith) ∙ total-below third 1002 (omega arith) ∙ total-below second 1002 (omega arith) ∙ first .total-is;
+    death-is =
+        total-below fourth 1004 (omega arith) ∙ total-below third 1004 (omega arith) ∙ second .total-is
+        ∙ ap (λ t. total-up t u) (total-behind first 1004 (omega arith));
+    cut-same =
+        total-below fourth 1006 (omega arith) ∙ total-below third 1006 (omega arith) ∙ total-behind second 1006 (omega arith)
+        ∙ total-behind first 1006 (omega arith);
+    rows-are =
+        note-totals s third fourth l u refl (ap (λ t. total-up t u) (upper-before s third fourth))
+        ∙ ap (λ r. row-with-death r s l u) (rows-stay second (omega arith) ∙ rows-stay first (omega arith));
+    names-kept = names-then (names-then (put-names first (omega arith)) (put-names second (omega arith))) (note-names s third fourth);
+  }
+
 -- ---- ranges
 
-module _ {t : RowTotals} (room : RowRoom t) where
-  pub lower-operand : Operand 18 (t .lower)
-  lower-operand = total-operand (room .lower) (lit≤ tt)
+module _ {t : Figure} (room : TotalOf 999999 t) where
+  pub room-operand : Operand 18 t
+  room-operand = total-operand room (lit≤ tt)
 
-  pub upper-operand : Operand 18 (t .upper)
-  upper-operand = total-operand (room .upper) (lit≤ tt)
+  pub up-operand : (a : Figure) → Sized 9 35000 a → Operand 18 (total-up t a)
+  up-operand a h = total-operand (total-up-more room (lit≤ tt) h) (lit≤ tt)
 
-  pub lower-more-operand : (a : Figure) → Sized 9 35000 a → Operand 18 (total-down (t .lower) a)
-  lower-more-operand a h = total-operand (total-down-more (room .lower) h) (lit≤ tt)
-
-  pub upper-more-operand : (a : Figure) → Sized 9 35000 a → Operand 18 (total-up (t .upper) a)
-  upper-more-operand a h = total-operand (total-up-more (room .upper) (lit≤ tt) h) (lit≤ tt)
+  pub down-operand : (a : Figure) → Sized 9 35000 a → Operand 18 (total-down t a)
+  down-operand a h = total-operand (total-down-more room h) (lit≤ tt)
 
 -- with one death path more, of n before it
-pub row-counted : {n : ℕ} (rows : ℕ → RowTotals) (last : ℕ) (l u : Figure) → n < 10 ^ 9 → Sized 9 35000 l → Sized 9 35000 u
+row-counted : {n : ℕ} (rows : ℕ → RowTotals) (last : ℕ) (l u : Figure) → n < 10 ^ 9 → Sized 9 35000 l → Sized 9 35000 u
     → ((s : ℕ) → RowGathered n (rows s)) → (s : ℕ) → RowGathered (n + 1) (row-with-death rows last l u s)
 unfolding row-with-death
 row-counted {n} rows last l u few low high h s = go (eqb last s)
@@ -167,10 +229,61 @@ row-counted {n} rows last l u few low high h s = go (eqb last s)
     go true = record { lower = total-down-more (h s .lower) low; upper = total-up-more (h s .upper) few high }
     go false = record { lower = total-same (h s .lower); upper = total-same (h s .upper) }
 
-pub row-room : {n : ℕ} {t : RowTotals} → n < 1000000 → RowGathered n t → RowRoom t
-row-room few h = record { lower = gathered-more (omega (arith, few)) (h .lower); upper = gathered-more (omega (arith, few)) (h .upper) }
+module _ {n : ℕ} {table : List ℕ} (h : TableGathered n table) where
+  -- all of them may have one term more, within the greatest budget
+  pub table-room : n < 1000000 → TableGathered 999999 table
+  table-room few = record {
+    size = h .size;
+    lower = gathered-more (omega (arith, few)) (h .lower);
+    death = gathered-more (omega (arith, few)) (h .death);
+    cut = gathered-more (omega (arith, few)) (h .cut);
+    each-row = λ s. let g = h .each-row s in
+        record { lower = gathered-more (omega (arith, few)) (g .lower); upper = gathered-more (omega (arith, few)) (g .upper) };
+  }
 
--- ---- names
+  pub table-step : TableGathered (n + 1) table
+  table-step = record {
+    size = h .size;
+    lower = total-same (h .lower);
+    death = total-same (h .death);
+    cut = total-same (h .cut);
+    each-row = λ s. let g = h .each-row s in record { lower = total-same (g .lower); upper = total-same (g .upper) };
+  }
 
-pub names-then : {a b c : List ℕ} → NamesKept a b → NamesKept b c → NamesKept a c
-names-then h k = record { size = k .size ∙ h .size; same = λ i low. k .same i low ∙ h .same i low }
+  module _ (few : n < 10 ^ 9) {after : List ℕ} {u : Figure} (high : Sized 9 35000 u) where
+    pub table-cut : CutNoted u table after → TableGathered (n + 1) after
+    table-cut k = record {
+      size = k .names-kept .size ∙ h .size;
+      lower = rw (k .lower-same) (total-same (h .lower));
+      death = rw (k .death-same) (total-same (h .death));
+      cut = rw (k .cut-is) (total-up-more (h .cut) few high);
+      each-row = λ s. rw (k .rows-same) (record { lower = total-same (h .each-row s .lower); upper = total-same (h .each-row s .upper) });
+    }
+
+    pub table-death : {s : ℕ} {l : Figure} → Sized 9 35000 l → DeathNoted s l u table after → TableGathered (n + 1) after
+    table-death {s} {l} low k = record {
+      size = k .names-kept .size ∙ h .size;
+      lower = rw (k .lower-is) (total-down-more (h .lower) low);
+      death = rw (k .death-is) (total-up-more (h .death) few high);
+      cut = rw (k .cut-same) (total-same (h .cut));
+      each-row = λ q. rw (k .rows-are) (row-counted (totals-in table) s l u few low high (h .each-row) q);
+    }
+
+-- ---- nothing yet
+
+module _ {table : List ℕ} (h : NoTotals table) where
+  pub empty-total : (at : ℕ) → 1002 ≤ at → total-in table at ≡ none
+  empty-total at low = sym (total-none _ _ (h .zeros at low))
+
+  pub empty-rows : totals-in table ≡ zero-row-totals
+  unfolding totals-in
+  empty-rows = λ i s. record { lower = empty-total (1008 + s * 4) (omega arith) i; upper = empty-total (1008 + s * 4 + 2) (omega arith) i }
+
+  pub empty-gathered : TableGathered 0 table
+  empty-gathered = record {
+    size = h .size;
+    lower = rw (empty-total 1002 (omega arith)) no-total;
+    death = rw (empty-total 1004 (omega arith)) no-total;
+    cut = rw (empty-total 1006 (omega arith)) no-total;
+    each-row = λ s. rw empty-rows (record { lower = no-total; upper = no-total });
+  }

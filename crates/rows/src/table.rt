@@ -1,18 +1,19 @@
-// The table of rows, in one lent array: how many rows there are; the state of each; then, for each state from 0 to 1,000, the totals of eighteen digits
-// over the death paths that end in it, the lower's and the upper's, two numbers each: the digits and the power, raised by 2^20.
+// The table of totals, in one lent array: how many rows there are; the state of each; the report's totals of eighteen digits, of the lowers and the
+// uppers of death paths and of the uppers of cut paths; then, for each state from 0 to 1,000, those of the lowers and the uppers of the death paths that
+// end in it. A total is two numbers: its digits and its power, raised by 2^20.
 ghost use mathlib.Core.Path.{_≡_};
 ghost use Prim.Native.Nat.{_+_, _*_, _≤_, _<_};
 ghost use lib.ListN.{length};
 ghost use Rattle.figure.specs.Operands.{Sized, Operand};
-ghost use Rattle.tree.specs.Internal.Tally.{row-with-death};
-ghost use Rattle.rows.specs.Internal.Table.{total-in, totals-in, row-count, RowRoom, Put, NamesKept};
+ghost use Rattle.figure.specs.Operations.{total-up, total-down};
+ghost use Rattle.rows.specs.Internal.Table.{total-in, row-count, Put, DeathNoted, CutNoted, TotalOf, TableGathered};
 ghost use Rattle.rows.specs.Internal.Filling.{RowFits, row-in};
 use figure::Figure;
 use tables::pack::lowered;
 use tables::pack::raised;
 use tree::Row;
 
-pub type RowTable = [u64; 5006];
+pub type RowTable = [u64; 5012];
 
 // How many rows there are.
 pub fn count(table: &RowTable) -> usize
@@ -22,8 +23,8 @@ pub fn count(table: &RowTable) -> usize
 }
 
 // The total that begins at a place; zeros are the total 0.
-fn total_at(table: &RowTable, at: usize) -> Figure
-    requires { ⌜ at < 5005 ⌝ }
+pub fn total_at(table: &RowTable, at: usize) -> Figure
+    requires { ⌜ at < 5011 ⌝ }
     ensures { λ r. ⌜ r ≡ total-in (now (table .entry)) at ⌝ }
 {
     let digits = table[at];
@@ -36,7 +37,7 @@ fn total_at(table: &RowTable, at: usize) -> Figure
 
 // Writes a total to a place.
 fn put_total(table: &mut RowTable, at: usize, total: Figure)
-    requires { ⌜ (at < 5005) × (length (now table) ≡ 5006) × Operand 18 total ⌝ }
+    requires { ⌜ (at < 5011) × (length (now table) ≡ 5012) × Operand 18 total ⌝ }
     ensures { λ _. ⌜ Put at total (now (table .entry)) (now (table .exit)) ⌝ }
 {
     let digits = total.digits;
@@ -45,17 +46,42 @@ fn put_total(table: &mut RowTable, at: usize, total: Figure)
     table[at + 1] = power;
 }
 
-// One more death path that ends in the state s.
-pub fn note(table: &mut RowTable, s: usize, lower: Figure, upper: Figure)
-    requires { ⌜ (s ≤ 1000) × (length (now table) ≡ 5006) × RowRoom (totals-in (now table) s) × Sized 9 35000 lower × Sized 9 35000 upper ⌝ }
-    ensures { λ _. ⌜ totals-in (now (table .exit)) ≡ row-with-death (totals-in (now (table .entry))) s lower upper ⌝ }
-    ensures { λ _. ⌜ NamesKept (now (table .entry)) (now (table .exit)) ⌝ }
+// Adds a figure to the total at a place, rounding up.
+fn raise_up(table: &mut RowTable, at: usize, a: Figure)
+    requires { ⌜ (at < 5011) × (length (now table) ≡ 5012) × TotalOf 999999 (total-in (now table) at) × Sized 9 35000 a ⌝ }
+    ensures { λ _. ⌜ Put at (total-up (total-in (now (table .entry)) at) a) (now (table .entry)) (now (table .exit)) ⌝ }
 {
-    let at = 1002 + s * 4;
-    let lowers = total_at(table, at);
-    let uppers = total_at(table, at + 2);
-    put_total(table, at, lowers.total_down(lower));
-    put_total(table, at + 2, uppers.total_up(upper));
+    let total = total_at(table, at);
+    put_total(table, at, total.total_up(a));
+}
+
+// The same, rounding down.
+fn raise_down(table: &mut RowTable, at: usize, a: Figure)
+    requires { ⌜ (at < 5011) × (length (now table) ≡ 5012) × TotalOf 999999 (total-in (now table) at) × Sized 9 35000 a ⌝ }
+    ensures { λ _. ⌜ Put at (total-down (total-in (now (table .entry)) at) a) (now (table .entry)) (now (table .exit)) ⌝ }
+{
+    let total = total_at(table, at);
+    put_total(table, at, total.total_down(a));
+}
+
+// One more death path that ends in the state s: in the report's totals and in those of its row.
+pub fn note_death(table: &mut RowTable, s: usize, lower: Figure, upper: Figure)
+    requires { ⌜ (s ≤ 1000) × TableGathered 999999 (now table) × Sized 9 35000 lower × Sized 9 35000 upper ⌝ }
+    ensures { λ _. ⌜ DeathNoted s lower upper (now (table .entry)) (now (table .exit)) ⌝ }
+{
+    let row = 1008 + s * 4;
+    raise_down(table, 1002, lower);
+    raise_up(table, 1004, upper);
+    raise_down(table, row, lower);
+    raise_up(table, row + 2, upper);
+}
+
+// One more cut path.
+pub fn note_cut(table: &mut RowTable, upper: Figure)
+    requires { ⌜ TableGathered 999999 (now table) × Sized 9 35000 upper ⌝ }
+    ensures { λ _. ⌜ CutNoted upper (now (table .entry)) (now (table .exit)) ⌝ }
+{
+    raise_up(table, 1006, upper);
 }
 
 // Row i: its state, and its totals to nine digits as the report's are, there being no cut path.
@@ -64,7 +90,7 @@ pub fn row_at(table: &RowTable, i: usize) -> Row
     ensures { λ r. ⌜ r ≡ row-in (now (table .entry)) i ⌝ }
 {
     let state = table[i + 1];
-    let at = 1002 + (state as usize) * 4;
+    let at = 1008 + (state as usize) * 4;
     let lowers = total_at(table, at);
     let uppers = total_at(table, at + 2);
     let lower = lowers.to_nine_down();

@@ -5,7 +5,7 @@ use native.Mathlib.Nat.{le-trans}
 use borrow.Author.Needs.{needs}
 use borrow.Author.Tests.{lt-ltb, le-ltb}
 use Rattle.bounds.proofs.WalkBegin.{accepts-of, refuses-of, reads-described, accepted-indexes, accepted-summary, accepted-budget}
-use Rattle.bounds.proofs.RowsMeasured.{measured-refused, measured-few, measured-over, measured-report}
+use Rattle.bounds.proofs.RowsMeasured.{table-most, measured-refused, measured-few, measured-over, measured-report}
 use Rattle.bounds.proofs.measured.Statement.{statement}
 use Rattle.bounds.proofs.measured.Tie as tie
 
@@ -52,7 +52,7 @@ walked-requires c κs =
     let k = told n in
     let a = accepts-of (k .before .before .read .ensures .answer) (k .r2 .given .1) in
     let h = n .name-rows .ensures in
-    ((accepted-indexes a, accepted-summary a, accepted-budget a), (h .size, h .no-totals))
+    ((accepted-indexes a, accepted-summary a, accepted-budget a), h .no-totals)
 
 name-rows-requires-2 : tie.Need-name-rows-requires-2
 name-rows-requires-2 c κs =
@@ -73,10 +73,11 @@ returns-2 c =
 
 reported-requires : tie.Need-reported-requires
 reported-requires c κs =
-    let w = c .before .before in
+    let e = c .before in
+    let w = e .before .before in
     let k = told (named-at w) in
     let a = accepts-of (k .before .before .read .ensures .answer) (k .r2 .given .1) in
-    (w .walked .ensures .counted .totals, le-trans (c .if2 .left) (accepted-budget a))
+    table-most (w .walked .ensures .counted .totals) (le-trans (e .if2 .left) (accepted-budget a))
 
 returns-3 : tie.Need-returns-3
 returns-3 c =
@@ -87,7 +88,7 @@ returns-3 c =
 
 returns-4 : tie.Need-returns-4
 returns-4 c =
-    let e = c .before in
+    let e = c .before .before in
     let w = e .before .before in
     let x = w .before .before .before in
     let n = x .before in

@@ -35,7 +35,7 @@ walk-requires c κs =
     let f = t .before .before .before in
     let h = start f .pre in
     walk-ready (h .0 .0) (h .0 .1) (f .fill .ensures) (t .figure-of .ensures) (l .figure-of2 .ensures) (w .of-whole .ensures) _ (h .0 .2) _ (n .nothing .ensures)
-    _ (h .1 .0) (h .1 .1)
+    _ (h .1)
 
 returns : tie.Need-returns
 returns c =
@@ -46,7 +46,7 @@ returns c =
     let f = t .before .before .before in
     let h = start f .pre in
     walk-tree (h .0 .0) (h .0 .1) (f .fill .ensures) (t .figure-of .ensures) (l .figure-of2 .ensures) (w .of-whole .ensures) _ (h .0 .2) _ (n .nothing .ensures)
-    _ (h .1 .0) (h .1 .1) (c .walk .ensures)
+    _ (h .1) (c .walk .ensures)
 
 pub walked-spec : {M : Type 1} → statement M
 walked-spec =

@@ -7,32 +7,32 @@ use lib.Dec.{ltb}
 use Rattle.word.specs.Model.{Net, Model}
 use Rattle.tree.specs.States.{mission-time, figure-of}
 use Rattle.tree.specs.Tree.{Visit, visits, tree}
-use Rattle.tree.specs.Internal.Tally.{Kept, nothing-kept}
+use Rattle.tree.specs.Internal.Tally.{Totals, Kept, nothing-kept}
 use Rattle.tree.specs.Internal.Carried.{Carried, Carries, carried-visits}
 use Rattle.tree.specs.Internal.Going.{Walked}
 use Rattle.tables.specs.Internal.Described.{described, net-of}
 use Rattle.bounds.specs.declared.walk.Task.{Task}
 use Rattle.path.specs.declared.exits.Tip.{Tip}
-use Rattle.path.specs.declared.totals.Totals.{Totals}
+use Rattle.path.specs.declared.counts.Counts.{Counts}
 use Rattle.path.specs.Internal.Lent.{Lent, Filled, model-in, net-in, limits-in}
 use Rattle.path.specs.Internal.Paths.{path-of, Known}
-use Rattle.path.specs.Internal.Totals.{totals-of, Counted}
-use Rattle.rows.specs.Internal.Table.{totals-in, RowGathered, NamesKept}
+use Rattle.path.specs.Internal.Counts.{Few}
+use Rattle.rows.specs.Internal.Table.{lower-total, death-total, cut-total, totals-in, NamesKept, TableGathered}
 
--- What a walk is asked for: to go on from the tip, with so many steps left, the entry counts and the path up to the tip, the totals so far, and the
--- table of rows with theirs.
+-- What a walk is asked for: to go on from the tip, with so many steps left, the entry counts and the path up to the tip, the counts so far, and the
+-- table with the totals.
 pub record Asked : Type 0 where
   pub task : Task
   pub tip : Tip
   pub left : ℕ
   pub entered : List ℕ
   pub path : List ℕ
-  pub totals : Totals
+  pub counts : Counts
   pub rows : List ℕ
 
-abbrev pub asked : Task → Tip → ℕ → List ℕ → List ℕ → Totals → List ℕ → Asked
-asked task tip left entered path totals rows =
-    record { task = task; tip = tip; left = left; entered = entered; path = path; totals = totals; rows = rows }
+abbrev pub asked : Task → Tip → ℕ → List ℕ → List ℕ → Counts → List ℕ → Asked
+asked task tip left entered path counts rows =
+    record { task = task; tip = tip; left = left; entered = entered; path = path; counts = counts; rows = rows }
 
 -- a task is that of a model, with an allowed budget
 pub record TaskOf (m : Model) (t : Task) : Type 0 where
@@ -49,15 +49,26 @@ carried-of net path tip entered =
 abbrev pub carried-in : Lent → Asked → Carried
 carried-in l a = carried-of (net-in l) (a .path) (a .tip) (a .entered)
 
--- all that a walk keeps: the totals, and in the table those of rows
-abbrev pub kept-of : Totals → List ℕ → Kept
-kept-of t rows = record { totals = totals-of t; rows = totals-in rows }
+-- the definitions' running totals: the counts, and the totals in the table
+abbrev pub totals-of : Counts → List ℕ → Totals
+totals-of c rows =
+    record {
+      lower = lower-total rows;
+      death-upper = death-total rows;
+      cut-upper = cut-total rows;
+      deaths = c .deaths;
+      cuts = c .cuts;
+      steps = c .steps;
+    }
 
--- all of it is in range: the totals are, and each state's as they are
-pub record KeptCounted (t : Totals) (rows : List ℕ) : Type 0 where
-  pub totals : Counted t
-  pub each-row : (s : ℕ) → RowGathered (t .steps) (totals-in rows s)
-  pub size : length rows ≡ 5006
+-- all that a walk keeps: these, and in the table those of rows
+abbrev pub kept-of : Counts → List ℕ → Kept
+kept-of c rows = record { totals = totals-of c rows; rows = totals-in rows }
+
+-- all of it is in range: as many terms as steps were taken
+pub record KeptCounted (c : Counts) (rows : List ℕ) : Type 0 where
+  pub counts : Few c
+  pub totals : TableGathered (c .steps) rows
 
 -- A walk may begin: the index and the table are filled, the task is the model's, and the tip, the entry counts and the path agree.
 pub record Ready (l : Lent) (a : Asked) : Type 0 where
@@ -69,12 +80,12 @@ pub record Ready (l : Lent) (a : Asked) : Type 0 where
   pub state-high : a .tip .state ≤ (model-in l) .states
   pub depth : a .left + a .tip .len ≡ (limits-in l) .step-limit
   pub more : 0 < a .left
-  pub counted : KeptCounted (a .totals) (a .rows)
-  pub within : a .totals .steps ≤ a .task .budget
+  pub counted : KeptCounted (a .counts) (a .rows)
+  pub within : a .counts .steps ≤ a .task .budget
 
--- What a walk over some visits hands back, from what is kept, w, on: where the budget has room for all of them, their totals; else totals whose steps
+-- What a walk over some visits hands back, from what is kept, w, on: where the budget has room for all of them, their totals; else counts whose steps
 -- are above the budget. The steps tell which.
-abbrev pub EndsOver : Net → ℕ → Kept → List Visit → Totals → List ℕ → Type 0
+abbrev pub EndsOver : Net → ℕ → Kept → List Visit → Counts → List ℕ → Type 0
 EndsOver net budget w vs r rows = Walked net budget w vs (ltb budget (r .steps)) (kept-of r rows)
 
 -- the visits beyond what is carried, with n steps left
@@ -82,23 +93,23 @@ abbrev pub visits-from : Lent → ℕ → Carried → List Visit
 visits-from l n c = carried-visits (net-in l) (limits-in l) n c
 
 -- the walk that is asked for ends so
-abbrev pub Ends : Lent → Asked → Totals → List ℕ → Type 0
-Ends l a r rows = EndsOver (net-in l) (a .task .budget) (kept-of (a .totals) (a .rows)) (visits-from l (a .left) (carried-in l a)) r rows
+abbrev pub Ends : Lent → Asked → Counts → List ℕ → Type 0
+Ends l a r rows = EndsOver (net-in l) (a .task .budget) (kept-of (a .counts) (a .rows)) (visits-from l (a .left) (carried-in l a)) r rows
 
 -- the cut tree's own visits beyond the path up to the tip
 abbrev pub visits-beyond : Lent → Asked → List Visit
 visits-beyond l a = visits (net-in l) (limits-in l) (a .left) (path-of (net-in l) (a .path) (a .tip .len))
 
 -- what `walk` hands back, and the table of rows after it
-pub record WalkedBeyond (l : Lent) (a : Asked) (r : Totals) (rows : List ℕ) : Type 0 where
+pub record WalkedBeyond (l : Lent) (a : Asked) (r : Counts) (rows : List ℕ) : Type 0 where
   pub ends : Ends l a r rows
   pub counted : KeptCounted r rows
   pub names-kept : NamesKept (a .rows) rows
   -- the steps are the count of paths in the cut tree's definition, where the budget was not passed
-  pub steps-are : r .steps ≤ a .task .budget → r .steps ≡ a .totals .steps + length (visits-beyond l a)
+  pub steps-are : r .steps ≤ a .task .budget → r .steps ≡ a .counts .steps + length (visits-beyond l a)
 
 -- what the walk from the start hands back, of the table of rows before and after
-pub record WalkedTree (ws : List ℕ) (budget : ℕ) (r : Totals) (before after : List ℕ) : Type 0 where
+pub record WalkedTree (ws : List ℕ) (budget : ℕ) (r : Counts) (before after : List ℕ) : Type 0 where
   pub ends : EndsOver (net-of ws) budget nothing-kept (tree (net-of ws) ((described ws) .limits)) r after
   pub counted : KeptCounted r after
   pub names-kept : NamesKept before after

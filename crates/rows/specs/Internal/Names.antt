@@ -9,8 +9,7 @@ use Rattle.word.specs.Model.{Transition, Model}
 use Rattle.model.specs.Index.{no-transition, exit-count}
 use Rattle.tree.specs.Paths.{one-if}
 use Rattle.tree.specs.Rows.{row-states}
-use Rattle.tree.specs.Internal.Tally.{zero-row-totals}
-use Rattle.rows.specs.Internal.Table.{row-count, row-state, totals-in}
+use Rattle.rows.specs.Internal.Table.{row-count, row-state, NoTotals}
 
 -- ---- targets
 
@@ -46,7 +45,6 @@ pub record Listed (index targets : List ℕ) (states : ℕ) (before after : List
 -- a table names the rows of a model, n of them, and has no totals yet
 pub record Named (m : Model) (table : List ℕ) (n : ℕ) : Type 0 where
   pub count-is : n ≡ length (row-states m)
-  pub size : length table ≡ 5006
   pub stands : row-count table ≡ n
   pub states-are : (i : ℕ) → i < n → row-state table i ≡ getD (row-states m) i 0
-  pub no-totals : totals-in table ≡ zero-row-totals
+  pub no-totals : NoTotals table

@@ -1,5 +1,6 @@
--- The table of rows as an array holds it, and the totals in it. Assumes nothing: these are definitions.
-use Prim.Native.Nat.{ℕ, _+_, _*_, _%_, _<_}
+-- The table of totals as an array holds it: the rows by number and state, the report's totals and those of each state. Assumes nothing: these are
+-- definitions.
+use Prim.Native.Nat.{ℕ, _+_, _*_, _%_, _≤_, _<_}
 use mathlib.Core.Path.{_≡_}
 use mathlib.Core.Bool.{true, false}
 use mathlib.Core.List.{List}
@@ -9,7 +10,8 @@ use lib.IntN.{pos, _-ℤ_}
 use Rattle.figure.specs.declared.Figure.{Figure}
 use Rattle.figure.specs.Rounding.{figure, none}
 use Rattle.figure.specs.Internal.Gathered.{Gathered}
-use Rattle.tree.specs.Internal.Tally.{RowTotals}
+use Rattle.figure.specs.Operations.{total-up, total-down}
+use Rattle.tree.specs.Internal.Tally.{RowTotals, row-with-death}
 
 -- ---- the sections
 
@@ -29,9 +31,20 @@ total-of digits raised = elim (eqb digits 0) [ true ↦ none | false ↦ figure 
 abbrev pub total-in : List ℕ → ℕ → Figure
 total-in table at = total-of (getD table at 0) (getD table (at + 1) 0)
 
--- the totals of the state s
+-- the report's totals, of the lowers and the uppers of death paths and of the uppers of cut paths
+
+abbrev pub lower-total : List ℕ → Figure
+lower-total table = total-in table 1002
+
+abbrev pub death-total : List ℕ → Figure
+death-total table = total-in table 1004
+
+abbrev pub cut-total : List ℕ → Figure
+cut-total table = total-in table 1006
+
+-- those of the state s
 unfoldable pub totals-in : List ℕ → ℕ → RowTotals
-totals-in table s = record { lower = total-in table (1002 + s * 4); upper = total-in table (1002 + s * 4 + 2) }
+totals-in table s = record { lower = total-in table (1008 + s * 4); upper = total-in table (1008 + s * 4 + 2) }
 
 -- ---- what is written
 
@@ -46,13 +59,41 @@ pub record NamesKept (before after : List ℕ) : Type 0 where
   pub size : length after ≡ length before
   pub same : (i : ℕ) → i < 1002 → getD after i 0 ≡ getD before i 0
 
+-- one more death path, of the lower l and the upper u, which ends in the state s
+pub record DeathNoted (s : ℕ) (l u : Figure) (before after : List ℕ) : Type 0 where
+  pub lower-is : lower-total after ≡ total-down (lower-total before) l
+  pub death-is : death-total after ≡ total-up (death-total before) u
+  pub cut-same : cut-total after ≡ cut-total before
+  pub rows-are : totals-in after ≡ row-with-death (totals-in before) s l u
+  pub names-kept : NamesKept before after
+
+-- one more cut path, of the upper u
+pub record CutNoted (u : Figure) (before after : List ℕ) : Type 0 where
+  pub lower-same : lower-total after ≡ lower-total before
+  pub death-same : death-total after ≡ death-total before
+  pub cut-is : cut-total after ≡ total-up (cut-total before) u
+  pub rows-same : totals-in after ≡ totals-in before
+  pub names-kept : NamesKept before after
+
+-- no total was written yet
+pub record NoTotals (table : List ℕ) : Type 0 where
+  pub size : length table ≡ 5012
+  pub zeros : (i : ℕ) → 1002 ≤ i → getD table i 0 ≡ 0
+
 -- ---- ranges
 
--- totals of at most n terms each
-pub record RowGathered (n : ℕ) (t : RowTotals) : Type 0 where
-  pub lower : Gathered 18 40000 40000 n (t .lower)
-  pub upper : Gathered 18 40000 40000 n (t .upper)
+-- a total of at most n terms, each 0 or from 10^-40,000 to 10^40,000
+abbrev pub TotalOf : ℕ → Figure → Type 0
+TotalOf n f = Gathered 18 40000 40000 n f
 
--- one term more may be added within the greatest budget
-abbrev pub RowRoom : RowTotals → Type 0
-RowRoom t = RowGathered 999999 t
+pub record RowGathered (n : ℕ) (t : RowTotals) : Type 0 where
+  pub lower : TotalOf n (t .lower)
+  pub upper : TotalOf n (t .upper)
+
+-- all totals of a table
+pub record TableGathered (n : ℕ) (table : List ℕ) : Type 0 where
+  pub size : length table ≡ 5012
+  pub lower : TotalOf n (lower-total table)
+  pub death : TotalOf n (death-total table)
+  pub cut : TotalOf n (cut-total table)
+  pub each-row : (s : ℕ) → RowGathered n (totals-in table s)

@@ -15,8 +15,8 @@ use Rattle.path.specs.Internal.Outcomes.{outcome-of}
 use Rattle.bounds.specs.Internal.Walk.{Asked, asked}
 use Rattle.path.proofs.DeathStems.{last-lower}
 use Rattle.rows.proofs.RowTotals.{names-then}
-use Rattle.bounds.proofs.WalkLoop.{Held, held, AtExit, exit-same, step-counted, one-step, state-small, room, ones-few, exit-ready, loop-start, steps-few, loop-end, loop-over, ends-steps}
-use Rattle.bounds.proofs.WalkTurns.{Turn, Visited, judged-there, there-small, judge-figures, last-step, note-figures, row-figures, death-noted, step-noted, cut-noted}
+use Rattle.bounds.proofs.WalkLoop.{Held, held, AtExit, exit-same, step-counted, state-small, room, ones-few, exit-ready, loop-start, steps-few, loop-end, loop-over, ends-steps}
+use Rattle.bounds.proofs.WalkTurns.{Turn, Visited, judged-there, there-small, judge-figures, last-step, count-figures, note-figures, death-noted, step-noted, cut-noted}
 use Rattle.bounds.proofs.WalkTurns.{visit-ended, before-fits, ready-there, visit-over, visit-back}
 use borrow.Fn.Kinds.{In}
 use borrow.Fn.PlainCycle.{Measures, is, falls, and}
@@ -29,10 +29,11 @@ use Rattle.path.proofs.exits.exit_at.Reads as exit-at-reads
 use Rattle.path.proofs.outcome.is_continued.Reads as is-continued-reads
 use Rattle.path.proofs.outcome.is_death.Reads as is-death-reads
 use Rattle.path.proofs.outcome.judge.Reads as judge-reads
-use Rattle.path.proofs.totals.with_cut.Reads as with-cut-reads
-use Rattle.path.proofs.totals.with_death.Reads as with-death-reads
-use Rattle.path.proofs.totals.with_step.Reads as with-step-reads
-use Rattle.rows.proofs.table.note.Reads as note-reads
+use Rattle.path.proofs.counts.with_cut.Reads as with-cut-reads
+use Rattle.path.proofs.counts.with_death.Reads as with-death-reads
+use Rattle.path.proofs.counts.with_step.Reads as with-step-reads
+use Rattle.rows.proofs.table.note_cut.Reads as note-cut-reads
+use Rattle.rows.proofs.table.note_death.Reads as note-death-reads
 use Rattle.figure.proofs.Figure.of_whole.Reads as of-whole-reads
 use Rattle.model.proofs.index.exit_count.Reads as exit-count-reads
 use Rattle.bounds.proofs.walk.+walk.{statement}
@@ -67,22 +68,24 @@ claims t = (
   death-reads.Learnt,
   with-death-reads.Asked,
   with-death-reads.Learnt,
-  note-reads.Asked,
-  note-reads.Learnt,
+  note-death-reads.Asked,
+  note-death-reads.Learnt,
   is-continued-reads.Asked,
   is-continued-reads.Learnt,
   walk-below t,
   walk.Post,
   with-cut-reads.Asked,
   with-cut-reads.Learnt,
+  note-cut-reads.Asked,
+  note-cut-reads.Learnt,
 )
 
 abbrev walk-Inv-loop : walk-lts.InvT-loop
-walk-Inv-loop words index table task tip left path rows₀ nth entered₀ taken₀ sums₀ cache₀ time level len count i₀ rows entered taken sums cache i =
-    (i ≤ count) × AtExit (lent words index table) (asked task tip left entered₀ taken₀ sums₀ rows₀) (held i entered taken sums cache rows)
+walk-Inv-loop words index table task tip left path rows₀ nth entered₀ taken₀ made₀ cache₀ time level len count i₀ rows entered taken made cache i =
+    (i ≤ count) × AtExit (lent words index table) (asked task tip left entered₀ taken₀ made₀ rows₀) (held i entered taken made cache rows)
 
 abbrev walk-μ-loop : walk-lts.MeasureT-loop
-walk-μ-loop words index table task tip left path rows₀ nth entered₀ taken₀ sums₀ cache₀ time level len count i₀ rows entered taken sums cache i =
+walk-μ-loop words index table task tip left path rows₀ nth entered₀ taken₀ made₀ cache₀ time level len count i₀ rows entered taken made cache i =
     count - i
 
 -- ---- the places of a turn: where the exit was read, and where the visit was noted
@@ -117,10 +120,10 @@ abbrev lent-at : (t : ℕ) (c : Start t) → Lent
 lent-at t c = lent (c .args .words .now) (c .args .index .now) (c .args .table .now)
 
 abbrev asked-at : (t : ℕ) (c : Start t) → Asked
-asked-at t c = asked (c .args .task) (c .args .tip) (c .args .left) (c .args .entries) (c .args .path) (c .args .totals) (c .args .rows .now)
+asked-at t c = asked (c .args .task) (c .args .tip) (c .args .left) (c .args .entries) (c .args .path) (c .args .counts) (c .args .rows .now)
 
 abbrev held-at : (t : ℕ) (c : AtLoop t) → Held
-held-at t c = held (c .loop .i) (c .loop .entered) (c .loop .taken) (c .loop .sums) (c .loop .cache) (c .loop .rows)
+held-at t c = held (c .loop .i) (c .loop .entered) (c .loop .taken) (c .loop .made) (c .loop .cache) (c .loop .rows)
 
 more-at : (t : ℕ) (c : InLoop t)
     → c .before .loop .i < exit-count ((loop-begin t (c .before)) .args .index .now) ((loop-begin t (c .before)) .args .tip .state)
@@ -168,7 +171,7 @@ judged-at t c = rw (c .before .before .exit-count2 .ensures .0) at (c .before .j
 visited : (t : ℕ) (c : StepNoted t) → VisitedAt t c
 visited t c =
     let j = (tested t c) .before .judge in
-    step-noted (turn t (read-exit t (tested t c))) (j .result) (judged-at t (tested t c)) (c .with-step2 .ensures .1) (on t c) (c .with-step2 .ensures .0)
+    step-noted (turn t (read-exit t (tested t c))) (j .result) (judged-at t (tested t c)) (on t c) (c .with-step2 .ensures)
 
 walk-add-of-whole : (t : ℕ) → walk-lts.Need-add-of-whole (claims t) (walk-at t) walk.Post walk-Inv-loop walk-μ-loop
 walk-add-of-whole t c = omega (arith, ones-few (c .before .before .pre .1))
@@ -192,17 +195,17 @@ walk-loop-holds t c =
 walk-with-step-requires : (t : ℕ) → walk-lts.Need-with-step-requires (claims t) (walk-at t) walk.Post walk-Inv-loop walk-μ-loop
 walk-with-step-requires t c κs =
     let k = c .before .before .before .before in
-    (k .loop .inv .1 .counted .totals, steps-few ((loop-begin t k) .pre .1) (k .loop .inv .1))
+    steps-few ((loop-begin t k) .pre .1) (k .loop .inv .1)
 
 walk-returns : (t : ℕ) → walk-lts.Need-returns (claims t) (walk-at t) walk.Post walk-Inv-loop walk-μ-loop
 walk-returns t c =
     let i = c .before in
     let k = i .before .before .before .before in
     let r = (loop-begin t k) .pre .1 in
-    let ends = loop-over r (k .loop .inv .1) (more-at t (i .before .before .before)) (i .if1 .taken) (c .with-step .ensures .0) in
+    let ends = loop-over r (k .loop .inv .1) (more-at t (i .before .before .before)) (i .if1 .taken) (c .with-step .ensures) in
     record {
       ends = ends;
-      counted = step-counted (c .with-step .ensures .1) (one-step (k .loop .sums) (c .with-step .ensures .0)) (k .loop .inv .1 .counted);
+      counted = step-counted (c .with-step .ensures) (k .loop .inv .1 .counted);
       names-kept = k .loop .inv .1 .names-kept;
       steps-are = ends-steps r (k .loop .rows) ends;
     }
@@ -237,17 +240,14 @@ walk-death-requires t c κs =
 
 walk-with-death-requires : (t : ℕ) → walk-lts.Need-with-death-requires (claims t) (walk-at t) walk.Post walk-Inv-loop walk-μ-loop
 walk-with-death-requires t c κs =
-    let d = c .before .before in
-    let w = turn t (read-exit t (d .before .before)) in
-    let h = note-figures w in
-    (h .0, h .1, last-lower (last-step w) (d .death .ensures .0), h .2)
+    count-figures (turn t (read-exit t (c .before .before .before .before)))
 
-walk-note-requires : (t : ℕ) → walk-lts.Need-note-requires (claims t) (walk-at t) walk.Post walk-Inv-loop walk-μ-loop
-walk-note-requires t c κs =
+walk-note-death-requires : (t : ℕ) → walk-lts.Need-note-death-requires (claims t) (walk-at t) walk.Post walk-Inv-loop walk-μ-loop
+walk-note-death-requires t c κs =
     let d = c .before .before .before .before in
     let w = turn t (read-exit t (d .before .before)) in
-    let h = row-figures w in
-    (h .0, h .1, h .2, last-lower (last-step w) (d .death .ensures .0), (note-figures w) .2)
+    let h = note-figures w in
+    (there-small w, h .0, last-lower (last-step w) (d .death .ensures .0), h .1)
 
 walk-is-continued-requires : (t : ℕ) → walk-lts.Need-is-continued-requires (claims t) (walk-at t) walk.Post walk-Inv-loop walk-μ-loop
 walk-is-continued-requires t c κs = tt
@@ -255,7 +255,7 @@ walk-is-continued-requires t c κs = tt
 walk-with-step-requires-2 : (t : ℕ) → walk-lts.Need-with-step-requires-2 (claims t) (walk-at t) walk.Post walk-Inv-loop walk-μ-loop
 walk-with-step-requires-2 t c κs =
     let w = turn t (read-exit t (c .before .before .before)) in
-    (w .kept .counted .totals, steps-few (w .ready) (w .kept))
+    steps-few (w .ready) (w .kept)
 
 walk-add-entered : (t : ℕ) → walk-lts.Need-add-entered (claims t) (walk-at t) walk.Post walk-Inv-loop walk-μ-loop
 walk-add-entered t c = omega (arith, before-fits (visited t c) (on t c))
@@ -296,7 +296,10 @@ walk-returns-2 t c =
     }
 
 walk-with-cut-requires : (t : ℕ) → walk-lts.Need-with-cut-requires (claims t) (walk-at t) walk.Post walk-Inv-loop walk-μ-loop
-walk-with-cut-requires t c κs = note-figures (turn t (read-exit t (c .before .before .before)))
+walk-with-cut-requires t c κs = count-figures (turn t (read-exit t (c .before .before .before)))
+
+walk-note-cut-requires : (t : ℕ) → walk-lts.Need-note-cut-requires (claims t) (walk-at t) walk.Post walk-Inv-loop walk-μ-loop
+walk-note-cut-requires t c κs = note-figures (turn t (read-exit t (c .before .before .before .before .before)))
 
 walk-add-i : (t : ℕ) → walk-lts.Need-add-i (claims t) (walk-at t) walk.Post walk-Inv-loop walk-μ-loop
 walk-add-i t c =
@@ -317,8 +320,8 @@ walk-loop-again t c =
       ⊎-elim
           (λ d. let died = dead ∙ d .0 .taken in
           exit-same (d .8) (d .9) (d .10) (d .11) (d .7)
-          (visit-ended (death-noted w o is (d .4 .ensures .1) died (last-lower (last-step w) (d .1 .ensures .0)) (d .1 .ensures .0) (d .4 .ensures .0)
-          (d .6 .ensures .0) (d .6 .ensures .1) (d .1 .ensures .1))
+          (visit-ended (death-noted w o is died (last-lower (last-step w) (d .1 .ensures .0)) (d .1 .ensures .0) (d .4 .ensures) (d .6 .ensures)
+          (d .1 .ensures .1))
           (ap is-continued (is-death-true (outcome-of o) died))))
           (⊎-elim
           (λ d. let g : StepNoted t = record {
@@ -328,7 +331,8 @@ walk-loop-again t c =
           exit-same (d .10) (d .11) (d .12) (d .13) (d .9)
           (visit-back (visited t g) (on t g) _ (d .5 .ensures .ends) (d .5 .ensures .counted) (d .5 .ensures .names-kept) (d .8 .left)))
           (λ d. let ended = sym (d .1 .ensures) ∙ d .2 .left in
-          exit-same (d .5) (d .6) (d .7) (d .8) (d .4) (visit-ended (cut-noted w o is (d .3 .ensures .1) (dead ∙ d .0 .left) ended (d .3 .ensures .0)) ended)))
+          exit-same (d .7) (d .8) (d .9) (d .10) (d .6)
+          (visit-ended (cut-noted w o is (dead ∙ d .0 .left) ended (d .3 .ensures) (d .5 .ensures)) ended)))
           (c .if2 .came),
     )
 
@@ -365,7 +369,7 @@ pub +walk-spec : {M : Type 1} → statement M
     (walk-is-death-requires t)
     (walk-death-requires t)
     (walk-with-death-requires t)
-    (walk-note-requires t)
+    (walk-note-death-requires t)
     (walk-is-continued-requires t)
     (walk-with-step-requires-2 t)
     (walk-add-entered t)
@@ -377,6 +381,7 @@ pub +walk-spec : {M : Type 1} → statement M
     (walk-array-write-entered-2 t)
     (walk-returns-2 t)
     (walk-with-cut-requires t)
+    (walk-note-cut-requires t)
     (walk-add-i t)
     (walk-loop-less t)
     (walk-loop-again t)
