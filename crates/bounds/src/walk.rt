@@ -70,8 +70,8 @@ pub(crate) fn walk(
             let died = death(words, index, table, time, path, tip, nth, exit, cache);
             let lower = died.lower;
             cache = died.cache;
-            made = with_death(made);
             note_death(rows, to, lower, upper);
+            made = with_death(made);
         } else if is_continued(o) {
             made = with_step(made);
             entered[to] = before + 1;
@@ -93,8 +93,8 @@ pub(crate) fn walk(
                 return made;
             }
         } else {
-            made = with_cut(made);
             note_cut(rows, upper);
+            made = with_cut(made);
         }
         i += 1;
     }

@@ -21,7 +21,6 @@ pub mod Sums
 pub mod Quotients
 pub mod Wholes
 pub mod Totals
-pub mod TotalsAdded
 pub mod Orders
 pub mod Differences
 pub mod Ceilings

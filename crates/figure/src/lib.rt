@@ -146,14 +146,14 @@ impl Figure {
         requires { ⌜ Operand 18 self × Operand 9 a ⌝ }
         ensures { λ r. ⌜ r ≡ ops.total-up self a ⌝ }
     {
-        total::added(true, self, a)
+        sum::plus(true, 18, self, total::widened(a))
     }
 
     pub fn total_down(self, a: Figure) -> Figure
         requires { ⌜ Operand 18 self × Operand 9 a ⌝ }
         ensures { λ r. ⌜ r ≡ ops.total-down self a ⌝ }
     {
-        total::added(false, self, a)
+        sum::plus(false, 18, self, total::widened(a))
     }
 
     // A total, to nine digits.

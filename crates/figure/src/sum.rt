@@ -29,7 +29,7 @@ pub(crate) fn plus(upward: bool, width: usize, a: Figure, b: Figure) -> Figure
 }
 
 // The sum of two figures that are not zero, the power of the first not below that of the second.
-pub(crate) fn joined(upward: bool, width: usize, large: Figure, small: Figure) -> Figure
+fn joined(upward: bool, width: usize, large: Figure, small: Figure) -> Figure
     requires { ⌜ Width width × Ordered width large small ⌝ }
     ensures { λ r. ⌜ r ≡ rounded upward width (value large +ᶠ value small) ⌝ }
 {

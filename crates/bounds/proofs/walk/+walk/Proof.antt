@@ -66,18 +66,18 @@ claims t = (
   is-death-reads.Learnt,
   death-reads.Asked,
   death-reads.Learnt,
-  with-death-reads.Asked,
-  with-death-reads.Learnt,
   note-death-reads.Asked,
   note-death-reads.Learnt,
+  with-death-reads.Asked,
+  with-death-reads.Learnt,
   is-continued-reads.Asked,
   is-continued-reads.Learnt,
   walk-below t,
   walk.Post,
-  with-cut-reads.Asked,
-  with-cut-reads.Learnt,
   note-cut-reads.Asked,
   note-cut-reads.Learnt,
+  with-cut-reads.Asked,
+  with-cut-reads.Learnt,
 )
 
 abbrev walk-Inv-loop : walk-lts.InvT-loop
@@ -240,11 +240,11 @@ walk-death-requires t c κs =
 
 walk-with-death-requires : (t : ℕ) → walk-lts.Need-with-death-requires (claims t) (walk-at t) walk.Post walk-Inv-loop walk-μ-loop
 walk-with-death-requires t c κs =
-    count-figures (turn t (read-exit t (c .before .before .before .before)))
+    count-figures (turn t (read-exit t (c .before .before .before .before .before .before)))
 
 walk-note-death-requires : (t : ℕ) → walk-lts.Need-note-death-requires (claims t) (walk-at t) walk.Post walk-Inv-loop walk-μ-loop
 walk-note-death-requires t c κs =
-    let d = c .before .before .before .before in
+    let d = c .before .before .before in
     let w = turn t (read-exit t (d .before .before)) in
     let h = note-figures w in
     (there-small w, h .0, last-lower (last-step w) (d .death .ensures .0), h .1)
@@ -296,10 +296,10 @@ walk-returns-2 t c =
     }
 
 walk-with-cut-requires : (t : ℕ) → walk-lts.Need-with-cut-requires (claims t) (walk-at t) walk.Post walk-Inv-loop walk-μ-loop
-walk-with-cut-requires t c κs = count-figures (turn t (read-exit t (c .before .before .before)))
+walk-with-cut-requires t c κs = count-figures (turn t (read-exit t (c .before .before .before .before .before)))
 
 walk-note-cut-requires : (t : ℕ) → walk-lts.Need-note-cut-requires (claims t) (walk-at t) walk.Post walk-Inv-loop walk-μ-loop
-walk-note-cut-requires t c κs = note-figures (turn t (read-exit t (c .before .before .before .before .before)))
+walk-note-cut-requires t c κs = note-figures (turn t (read-exit t (c .before .before .before .before)))
 
 walk-add-i : (t : ℕ) → walk-lts.Need-add-i (claims t) (walk-at t) walk.Post walk-Inv-loop walk-μ-loop
 walk-add-i t c =
@@ -320,7 +320,7 @@ walk-loop-again t c =
       ⊎-elim
           (λ d. let died = dead ∙ d .0 .taken in
           exit-same (d .8) (d .9) (d .10) (d .11) (d .7)
-          (visit-ended (death-noted w o is died (last-lower (last-step w) (d .1 .ensures .0)) (d .1 .ensures .0) (d .4 .ensures) (d .6 .ensures)
+          (visit-ended (death-noted w o is died (last-lower (last-step w) (d .1 .ensures .0)) (d .1 .ensures .0) (d .6 .ensures) (d .5 .ensures)
           (d .1 .ensures .1))
           (ap is-continued (is-death-true (outcome-of o) died))))
           (⊎-elim
@@ -332,7 +332,7 @@ walk-loop-again t c =
           (visit-back (visited t g) (on t g) _ (d .5 .ensures .ends) (d .5 .ensures .counted) (d .5 .ensures .names-kept) (d .8 .left)))
           (λ d. let ended = sym (d .1 .ensures) ∙ d .2 .left in
           exit-same (d .7) (d .8) (d .9) (d .10) (d .6)
-          (visit-ended (cut-noted w o is (dead ∙ d .0 .left) ended (d .3 .ensures) (d .5 .ensures)) ended)))
+          (visit-ended (cut-noted w o is (dead ∙ d .0 .left) ended (d .5 .ensures) (d .4 .ensures)) ended)))
           (c .if2 .came),
     )
 
@@ -368,8 +368,8 @@ pub +walk-spec : {M : Type 1} → statement M
     (walk-judge-requires t)
     (walk-is-death-requires t)
     (walk-death-requires t)
-    (walk-with-death-requires t)
     (walk-note-death-requires t)
+    (walk-with-death-requires t)
     (walk-is-continued-requires t)
     (walk-with-step-requires-2 t)
     (walk-add-entered t)
@@ -380,8 +380,8 @@ pub +walk-spec : {M : Type 1} → statement M
     (walk-walk-requires t)
     (walk-array-write-entered-2 t)
     (walk-returns-2 t)
-    (walk-with-cut-requires t)
     (walk-note-cut-requires t)
+    (walk-with-cut-requires t)
     (walk-add-i t)
     (walk-loop-less t)
     (walk-loop-again t)
