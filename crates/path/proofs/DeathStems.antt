@@ -33,22 +33,22 @@ use Rattle.path.specs.declared.exits.Exit.{Exit}
 use Rattle.path.specs.declared.deaths.Stem.{Stem}
 use Rattle.path.specs.Internal.Lent.{Lent, model-in, net-in}
 use Rattle.path.specs.Internal.Paths.{path-of, Known, own-grains}
-use Rattle.path.specs.Internal.Deaths.{LastStep, last-by, StemAt, StemOf, StemFor, StemSized, death-lower}
+use Rattle.path.specs.Internal.Deaths.{is-filled, LastStep, last-by, StemAt, StemOf, StemFor, StemSized, death-lower}
 use Rattle.path.proofs.PathSums.{path-length, path-valid, SpentOn, spent-one, spent-other, spent-sized, spent-high, Multiplied, multiplied-one, multiplied-other, multiplied-sized}
 
 -- ---- the cases of the lower
 
 module _ (c : Stem) (x : Class) (s f n : Figure) where
-  pub lower-filled : c .filled ≡ true → death-lower c x s f n ≡ none
+  pub lower-filled : is-filled c ≡ true → death-lower c x s f n ≡ none
   unfolding death-lower
   lower-filled e = rw (e, death-lower)
 
-  pub lower-one : c .filled ≡ false → is-class1 x ≡ true
+  pub lower-one : is-filled c ≡ false → is-class1 x ≡ true
       → death-lower c x s f n ≡ times-down (divided-down (times-down (times-down (c .product) s) (c .time)) n) (c .last)
   unfolding death-lower
   lower-one e h = rw (e, h, death-lower)
 
-  pub lower-other : c .filled ≡ false → is-class1 x ≡ false → death-lower c x s f n ≡ times-down (times-down (c .product) f) (c .last)
+  pub lower-other : is-filled c ≡ false → is-class1 x ≡ false → death-lower c x s f n ≡ times-down (times-down (c .product) f) (c .last)
   unfolding death-lower
   lower-other e h = rw (e, h, death-lower)
 
@@ -60,7 +60,7 @@ pub scaled : (op : Figure → Figure → Figure) (q : ℤ) {r f a b x y : Figure
 scaled op q h k d e = rw (h, k, d, e)
 
 -- N' fills the mission time
-pub stem-full : {net : Net} {p : Path} {n : ℕ} {a : Figure} {k : ℕ} {c : Stem} → c .filled ≡ true → 1000000 ≤ n → StemAt net p n a k c
+pub stem-full : {net : Net} {p : Path} {n : ℕ} {a : Figure} {k : ℕ} {c : Stem} → is-filled c ≡ true → 1000000 ≤ n → StemAt net p n a k c
 stem-full {n = n} e h = record {
   filled-is = e ∙ sym (le-leb 1000000 n h);
   time-is = λ f. absurd (true≢false (sym e ∙ f));
@@ -70,7 +70,7 @@ stem-full {n = n} e h = record {
 
 module _ {m : Model} (valid : Valid m) {n : ℕ} (inside : n < 1000000) where
   -- else t is rounded by operations on figures
-  pub stem-rest : {p : Path} {a above : Figure} {k : ℕ} {c : Stem} → c .filled ≡ false
+  pub stem-rest : {p : Path} {a above : Figure} {k : ℕ} {c : Stem} → is-filled c ≡ false
       → c .time ≡ times-ten (times-down (mission-time (m .net)) (of-whole (1000000 - n))) (negsuc 5)
       → above ≡ times-ten (times-up (mission-time (m .net)) (of-whole (1000000 - n))) (negsuc 5)
       → c .product ≡ lower-product (m .net) (own-grains (m .net)) (c .time) p
@@ -87,7 +87,7 @@ module _ {m : Model} (valid : Valid m) {n : ℕ} (inside : n < 1000000) where
         last-is = λ _. l ∙ ap (λ (t : Figure). minus-down (of-whole 1) (divided-up (times-up t a) (of-whole (k + 1)))) above;
       }
 
-  pub stem-sized : {l : List ℕ} {d : ℕ} {a : Figure} {k : ℕ} {c : Stem} → Known (m .net) l d → Sized 9 1000 a → k ≤ 24 → c .filled ≡ false
+  pub stem-sized : {l : List ℕ} {d : ℕ} {a : Figure} {k : ℕ} {c : Stem} → Known (m .net) l d → Sized 9 1000 a → k ≤ 24 → is-filled c ≡ false
       → StemAt (m .net) (path-of (m .net) l d) n a k c → StemSized c
   unfolding last-by
   stem-sized {k = k} known size few f s =
@@ -124,7 +124,7 @@ module _ {net : Net} (t : Transition) {p : Path} {c : Stem} where
   -- the lower of the path with its last step; k counts if that is of class 1
   death-is : {k : ℕ} → StemOf net p t (t .from) c → (class net t ≡ class1 → k ≡ class1-count net (t ∷ p))
       → death-lower c (class net t) (share (t .manner)) (step-factor net (class net t) t) (of-whole k) ≡ lower net (t ∷ p)
-  death-is {k} shared count = go (c .filled) refl
+  death-is {k} shared count = go (is-filled c) refl
     where
       s : StemOn net t p c
       s = on-path shared
@@ -138,10 +138,10 @@ module _ {net : Net} (t : Transition) {p : Path} {c : Stem} where
       own : lower net (t ∷ p) ≡ lower-with net (own-grains net) (t ∷ p)
       own = lower-grains net (t ∷ p) ∙ ap (λ (g : Transition → ℕ). lower-with net g (t ∷ p)) (grains-any net (t ∷ p) [])
 
-      so-far : c .filled ≡ false → Multiplied net time p (class1-count net p) (c .product)
+      so-far : is-filled c ≡ false → Multiplied net time p (class1-count net p) (c .product)
       so-far e = record { ones-are = refl; product-is = s .product-is e }
 
-      by-class : (b : Bool) → is-class1 (class net t) ≡ b → c .filled ≡ false
+      by-class : (b : Bool) → is-class1 (class net t) ≡ b → is-filled c ≡ false
           → death-lower c (class net t) (share (t .manner)) (step-factor net (class net t) t) (of-whole k)
           ≡ times-down (lower-product net (own-grains net) time (t ∷ p)) (c .last)
       by-class true h e =
@@ -153,7 +153,7 @@ module _ {net : Net} (t : Transition) {p : Path} {c : Stem} where
       by-class false h e =
           lower-other c _ _ _ _ e h ∙ ap (λ (f : Figure). times-down f (c .last)) ((multiplied-other t (so-far e) (one-false _ h) refl) .product-is)
 
-      go : (b : Bool) → c .filled ≡ b
+      go : (b : Bool) → is-filled c ≡ b
           → death-lower c (class net t) (share (t .manner)) (step-factor net (class net t) t) (of-whole k) ≡ lower net (t ∷ p)
       go true e = lower-filled c _ _ _ _ e ∙ sym (own ∙ lower-full net (own-grains net) (t ∷ p) (leb-true 1000000 N (sym (s .filled-is) ∙ e)))
       go false e =

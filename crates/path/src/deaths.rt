@@ -15,7 +15,7 @@ ghost use Rattle.tables.specs.Internal.Classes.{class-for};
 ghost use Rattle.tables.specs.Internal.Described.{net-of};
 ghost use Rattle.path.specs.Internal.Lent.{Filled, lent};
 ghost use Rattle.path.specs.Internal.Paths.{Known, path-of};
-ghost use Rattle.path.specs.Internal.Deaths.{Cached, LastStep, StemAt, StemFor, StemSized, death-lower};
+ghost use Rattle.path.specs.Internal.Deaths.{Cached, is-filled, LastStep, StemAt, StemFor, StemSized, death-lower};
 use crate::exits::Exit;
 use crate::exits::Tip;
 use crate::lower::last_factor;
@@ -33,18 +33,19 @@ use tables::table::grains;
 use tables::table::rate_sum;
 use tables::table::share;
 
-// What the deaths share that leave one state by one class and with the same grains: whether N' fills the mission time, so that their lowers are
-// 0; else down(t), the product up to that state and the last factor.
+// What the deaths share that leave one state by one class and with the same grains: 1 if N' fills the mission time, so that their lowers are 0; else 0,
+// down(t), the product up to that state and the last factor.
 pub struct Stem {
-    pub filled: bool,
+    pub filled: u64,
     pub time: Figure,
     pub product: Figure,
     pub last: Figure,
 }
 
-// The stem of the deaths that leave the walk's state by a slow exit, once the first was met.
+// The stem of the deaths that leave the walk's state by a slow exit, with 1 once the first was met, and 0 before. (Flags are whole numbers: the padding
+// behind a bool, copied with the struct, slowed the walk down.)
 pub struct Cache {
-    pub known: bool,
+    pub known: u64,
     pub stem: Stem,
 }
 
@@ -56,10 +57,10 @@ pub struct Died {
 
 // A stem of which only that it fills the mission time is looked at.
 fn filled_stem() -> Stem
-    ensures { λ r. ⌜ (r .filled ≡ true) × StemSized r ⌝ }
+    ensures { λ r. ⌜ (is-filled r ≡ true) × StemSized r ⌝ }
 {
     Stem {
-        filled: true,
+        filled: 1,
         time: Figure::zero(),
         product: Figure::zero(),
         last: Figure::zero(),
@@ -71,7 +72,7 @@ pub fn no_cache() -> Cache
     ensures { λ r. ⌜ ((net : Net) (p : Path) (s : ℕ) → Cached net p s r) ⌝ }
 {
     Cache {
-        known: false,
+        known: 0,
         stem: filled_stem(),
     }
 }
@@ -102,7 +103,7 @@ fn stem_of_sums(
     let p = product(words, index, table, path, len, t);
     let last = last_factor(above, rates, ones);
     Stem {
-        filled: false,
+        filled: 0,
         time: t,
         product: p,
         last,
@@ -154,7 +155,7 @@ fn kept_or_new_stem(
     ensures { λ r. ⌜ StemSized r ⌝ }
 {
     let class = exit.class;
-    if cache.known {
+    if cache.known == 1 {
         if is_slow(class) {
             let stem = cache.stem;
             return stem;
@@ -168,7 +169,7 @@ fn lower_of(stem: Stem, class: Class, share: Figure, factor: Figure, nth: Figure
     requires { ⌜ StemSized stem × Sized 9 2000 share × Sized 9 2000 factor × Sized 9 2000 nth × (0 < nth .digits) ⌝ }
     ensures { λ r. ⌜ r ≡ death-lower stem (class-for class) share factor nth ⌝ }
 {
-    if stem.filled {
+    if stem.filled == 1 {
         return Figure::zero();
     }
     let p = stem.product;
@@ -206,7 +207,7 @@ pub fn death(
     let j = wide(exit.index);
     let lower = lower_of(stem, class, share(table, j), factor(table, j), nth);
     if is_slow(class) {
-        let kept = Cache { known: true, stem };
+        let kept = Cache { known: 1, stem };
         return Died { lower, cache: kept };
     }
     Died { lower, cache }

@@ -2,10 +2,10 @@
 -- these are definitions.
 use Prim.Native.Nat.{ℕ, _+_, _<_}
 use mathlib.Core.Path.{_≡_}
-use mathlib.Core.Bool.{true, false}
+use mathlib.Core.Bool.{Bool, true, false}
 use mathlib.Core.List.{List}
 use lib.ListN.{length}
-use lib.Dec.{leb}
+use lib.Dec.{leb, eqb}
 use Rattle.figure.specs.declared.Figure.{Figure}
 use Rattle.figure.specs.Rounding.{none, up, down}
 use Rattle.figure.specs.Operands.{Sized}
@@ -41,12 +41,15 @@ pub record LastStep (l : Lent) (time : Figure) (path : List ℕ) (tip : Tip) (ex
 unfoldable pub last-by : Net → ℕ → Figure → ℕ → Figure
 last-by net n a k = minus-down (of-whole 1) (divided-up (times-up (up 9 (remaining-time net n)) a) (of-whole (k + 1)))
 
+abbrev pub is-filled : Stem → Bool
+is-filled c = eqb (c .filled) 1
+
 -- the stem of the deaths whose path is p up to the last step, with n grains in all, A and k
 pub record StemAt (net : Net) (p : Path) (n : ℕ) (a : Figure) (k : ℕ) (c : Stem) : Type 0 where
-  pub filled-is : c .filled ≡ leb 1000000 n
-  pub time-is : c .filled ≡ false → c .time ≡ down 9 (remaining-time net n)
-  pub product-is : c .filled ≡ false → c .product ≡ lower-product net (own-grains net) (down 9 (remaining-time net n)) p
-  pub last-is : c .filled ≡ false → c .last ≡ last-by net n a k
+  pub filled-is : is-filled c ≡ leb 1000000 n
+  pub time-is : is-filled c ≡ false → c .time ≡ down 9 (remaining-time net n)
+  pub product-is : is-filled c ≡ false → c .product ≡ lower-product net (own-grains net) (down 9 (remaining-time net n)) p
+  pub last-is : is-filled c ≡ false → c .last ≡ last-by net n a k
 
 -- the same by the class of the last step, its own grains g and the state s that it leaves
 abbrev pub StemBy : Net → Path → Class → ℕ → ℕ → Stem → Type 0
@@ -77,7 +80,7 @@ slow-grains net s = elim (has-fast (exits net s)) [ true ↦ class3-grains net s
 
 -- where a cache is known, it has the stem of the deaths that leave s by a slow exit after the path p
 pub record Cached (net : Net) (p : Path) (s : ℕ) (c : Cache) : Type 0 where
-  pub stem-is : c .known ≡ true → StemBy net p (slow-class net s) (slow-grains net s) s (c .stem)
+  pub stem-is : c .known ≡ 1 → StemBy net p (slow-class net s) (slow-grains net s) s (c .stem)
   pub sized : StemSized (c .stem)
 
 -- ---- one death
@@ -85,7 +88,7 @@ pub record Cached (net : Net) (p : Path) (s : ℕ) (c : Cache) : Type 0 where
 -- the lower of a death path: by its last step's class, with that step's share and factor; n is its number among class 1 steps if it is one
 unfoldable pub death-lower : Stem → Class → Figure → Figure → Figure → Figure
 death-lower c x s f n =
-    elim (c .filled) [
+    elim (is-filled c) [
       | true ↦ none
       | false ↦ elim (is-class1 x) [ true ↦ times-down (divided-down (times-down (times-down (c .product) s) (c .time)) n) (c .last) | false ↦ times-down (times-down (c .product) f) (c .last) ]
     ]

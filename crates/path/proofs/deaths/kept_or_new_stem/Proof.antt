@@ -13,7 +13,7 @@ returns : tie.Need-returns
 returns c =
     let t = c .before in
     let k = t .before .before in
-    let p = k .before .before .pre in
+    let p = k .before .before .before .pre in
     let slow-step = ap is-slow (sym (p .0 .class-is)) ∙ sym (t .before .is-slow .ensures) ∙ t .if2 .taken in
     (kept-serves _ _ slow-step (p .0 .leaves) (p .1 .stem-is (k .if1 .taken)), p .1 .sized)
 
