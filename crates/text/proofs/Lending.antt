@@ -1,4 +1,4 @@
--- A caller who lends 1,000 rows: the answer that is promised, and that it is the one to a caller who lends none. Assumes nothing.
+-- A caller who lends 1,000 rows: the answer that is promised, and that it is the one given without rows. Assumes nothing.
 use Prim.Native.Nat.{ℕ}
 use mathlib.Core.Path.{_≡_, sym, ap, _∙_}
 use mathlib.Core.List.{List}

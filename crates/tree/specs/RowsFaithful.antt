@@ -40,7 +40,7 @@ EveryDeathHasRow = (ws : List ℕ) (budget : ℕ) (m : Model) → read ws budget
 
 -- ---- refusal 14
 
--- a caller who lends 1,000 rows or more has the answer of one who lends none: N is at most 1,000
+-- a caller who lends 1,000 rows or more has the answer that is given without rows: N is at most 1,000
 abbrev pub ThousandRowsEnough : Type 0
 ThousandRowsEnough = (ws : List ℕ) (budget lent : ℕ) → 1000 ≤ lent → answer-with-rows ws budget lent ≡ answer ws budget
 

@@ -1,4 +1,4 @@
-// One word of the table: its fields, what can be wrong with it, and document 01's refusals.
+// One word of the table: its fields, what can be wrong with it, and the documents' refusals.
 pub mod faults;
 pub mod fields;
 mod reasons;

@@ -1,4 +1,4 @@
--- `unreliability` meets its contract: the answer to a caller who lends 1,000 rows is that to one who lends none. Assumes nothing.
+-- `unreliability` meets its contract: the answer to a caller who lends 1,000 rows is that given without rows. Assumes nothing.
 use mathlib.Core.Path.{_∙_}
 use native.Mathlib.Nat.{le-refl}
 use borrow.Author.Needs.{needs}
