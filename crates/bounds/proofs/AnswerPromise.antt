@@ -13,11 +13,13 @@ use Rattle.model.proofs.Refusals.{refused-not-granted}
 use Rattle.tree.specs.Tree.{tree}
 use Rattle.tree.specs.Report as definition
 use Rattle.tree.proofs.Answer.{walked-over, walked-within, answer-read}
+use Rattle.tree.specs.Marks.{marks-with}
 use Rattle.accuracy.specs.Rule.{AccuracyRule}
 use Rattle.accuracy.proofs.Theorem.{accuracy-theorem}
+use Rattle.accuracy.proofs.Exactness.{mark-theorem}
 use Rattle.bounds.proofs.Faithful.{faithful}
 use Rattle.bounds.specs.declared.Answer.{Answer}
-use Rattle.bounds.specs.Answers.{Promised, answer-of}
+use Rattle.bounds.specs.Answers.{Promised, answer-of, marks-of-answer}
 
 -- what was granted, or something else for a refusal
 abbrev granted-or : {A : Type 0} → A → answers.Answer A → A
@@ -51,11 +53,14 @@ module _ (ws : List ℕ) (budget : ℕ) (a : answers.Answer definition.Report) (
       go (no h) = absurd (refused-not-granted (sym (over (lt-of-not-le h)) ∙ e))
 
 -- an answer that is the definition's, with the words unchanged
-pub promise : (ws after : List ℕ) (budget : ℕ) (r : Answer) → after ≡ ws → answer-of r ≡ definition.answer ws budget → Promised ws after budget r
-promise ws after budget r kept is = record {
+pub promise : (ws after : List ℕ) (budget : ℕ) (r : Answer) → after ≡ ws → answer-of r ≡ definition.answer ws budget
+    → marks-of-answer r ≡ marks-with ws budget (definition.answer ws budget) → Promised ws after budget r
+promise ws after budget r kept is marks = record {
   answer-is = is;
   values-are = ap definition.values is;
   accuracy = subst (AccuracyRule ws budget) (sym is) (accuracy-theorem ws budget);
+  marks-are = marks;
+  marks-mean = rw (is, marks) (mark-theorem ws budget);
   words-unchanged = kept;
   steps-are = λ m q read e. counted ws budget (answer-of r) is m read q e;
   refused-over = λ m read h. over ws budget (answer-of r) is m read h;

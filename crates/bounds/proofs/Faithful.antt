@@ -3,6 +3,7 @@ use Rattle.figure.proofs.Faithful.{faithful-figures}
 use Rattle.model.proofs.Numbers.{reason-refuses, refusal-reason}
 use Rattle.tree.proofs.Faithful.{faithful-tree}
 use Rattle.tree.proofs.RowsFaithful.{faithful-rows}
+use Rattle.tree.proofs.MarksFaithful.{faithful-marks}
 use Rattle.accuracy.proofs.Faithful.{faithful-exact}
 use Rattle.bounds.specs.Faithful.{Faithful}
 
@@ -14,4 +15,5 @@ faithful = record {
   tree = faithful-tree;
   exact = faithful-exact;
   rows = faithful-rows;
+  marks = faithful-marks;
 }

@@ -28,7 +28,8 @@ use Rattle.tree.specs.Internal.Tally.{finish-row, zero-row-totals, nothing-kept
 use Rattle.tree.proofs.Computing.{computing}
 use Rattle.tree.proofs.Tally.{tally-finish-row}
 use Rattle.tree.proofs.Ranges.{total-none, total-operand}
-use Rattle.tree.proofs.Answer.{walk-refused, walk-reported}
+use Rattle.tree.specs.Marks.{marks-with}
+use Rattle.tree.proofs.Answer.{walk-refused, walk-reported, walk-marks, marks-refused, marks-granted}
 use Rattle.tree.proofs.RowStates.{row-states-few, row-states-range}
 use Rattle.tree.proofs.RowAnswers.{RowsRefused, rows-read-refused, rows-read-few, rows-read-granted, rows-of-length, rows-of-over-at, rows-of-within-at}
 use Rattle.path.specs.declared.counts.Counts.{Counts}
@@ -39,9 +40,9 @@ use Rattle.rows.proofs.RowTotals.{empty-rows}
 use Rattle.bounds.specs.declared.Report.{Report}
 use Rattle.bounds.specs.declared.Answer.{Answer}
 use Rattle.bounds.specs.declared.Answer.the-variants.{Report as reported, Refused}
-use Rattle.bounds.specs.Answers.{answer-of, report-of}
+use Rattle.bounds.specs.Answers.{answer-of, report-of, marks-of}
 use Rattle.bounds.specs.Internal.Measured.{Measured}
-use Rattle.bounds.specs.Internal.Walk.{totals-of, EndsOver, KeptCounted}
+use Rattle.bounds.specs.Internal.Walk.{totals-of, kept-of, EndsOver, KeptCounted}
 
 -- totals of at most as many terms as the greatest budget
 pub table-most : {n : ℕ} {table : List ℕ} → TableGathered n table → n ≤ 1000000 → TableGathered 1000000 table
@@ -55,7 +56,7 @@ table-most h few = record {
 
 -- ---- no rows
 
-module _ (ws : List ℕ) (budget lent : ℕ) {table : List ℕ} (cleared : table ≡ replicate 5012 0) where
+module _ (ws : List ℕ) (budget lent : ℕ) {table : List ℕ} (cleared : table ≡ replicate 5014 0) where
   no-rows : row-count table ≡ 0
   no-rows = ap (λ l. getD l 0 0) cleared
 
@@ -63,6 +64,7 @@ module _ (ws : List ℕ) (budget lent : ℕ) {table : List ℕ} (cleared : table
   none-filled : (f : Refusal) → RowsRefused ws budget lent (number f) (place f) → Measured ws ws budget lent table (Refused f)
   none-filled f h = record {
     answer-is = sym (h .answers);
+    marks-are = sym (ap (marks-with ws budget) (h .answers) ∙ marks-refused ws budget (number f) (place f));
     has = record { count-is = no-rows ∙ ap length (sym (h .fills)); rows-are = λ i low. absurd (omega (arith, low, ap length (h .fills))) };
     fits = record { few = omega (arith, no-rows); room = omega (arith, no-rows); rows = λ i low. absurd (omega (arith, low, no-rows)) };
     words-unchanged = refl;
@@ -144,6 +146,7 @@ module _ (ws : List ℕ) (budget lent : ℕ) {m : Model} (read : reading.read ws
         let kept : NamesKept table table = record { size = refl; same = λ i h. refl } in
         record {
           answer-is = sym (granted .answers ∙ walk-refused budget m _ _ ends over);
+          marks-are = sym (ap (marks-with ws budget) (granted .answers ∙ walk-refused budget m _ _ ends over) ∙ marks-refused ws budget 13 0);
           has = subst (Has table) (sym (granted .fills)) (has-there m high named kept budget
               (λ i h. zero-there named (getD (row-states m) i 0) ∙ sym (rows-of-over-at budget m i (zero-row 0) h more)));
           fits = fits-there m high named kept enough
@@ -156,12 +159,15 @@ module _ (ws : List ℕ) (budget lent : ℕ) {m : Model} (read : reading.read ws
 
     -- a report
     pub measured-report : {table : List ℕ} {n : ℕ} → Named m table n → NamesKept table after → KeptCounted t after → t .steps ≤ 1000000
-        → (q : Report) → report-of q ≡ running.finish (totals-of t after) → ltb budget (t .steps) ≡ false → Measured ws ws budget lent after (reported q)
-    measured-report {table} {n} named names counted few q is within =
+        → (q : Report) → report-of q ≡ running.finish (totals-of t after) → marks-of q ≡ running.finish-marks (kept-of t after)
+        → ltb budget (t .steps) ≡ false → Measured ws ws budget lent after (reported q)
+    measured-report {table} {n} named names counted few q is marks within =
         let granted = rows-read-granted ws budget lent read enough in
         let less : length (tree (m .net) (m .limits)) ≤ budget = omega (arith, ltb-false budget (0 + length (tree (m .net) (m .limits))) (sym (ends .over-is) ∙ within)) in
         record {
           answer-is = ap answers.granted is ∙ sym (granted .answers ∙ walk-reported budget m _ _ ends within);
+          marks-are = marks ∙ walk-marks budget m _ _ ends within
+              ∙ sym (ap (marks-with ws budget) (granted .answers ∙ walk-reported budget m _ _ ends within) ∙ marks-granted ws budget m _ read);
           has = subst (Has after) (sym (granted .fills)) (has-there m high named names budget
               (λ i h. row-there (getD (row-states m) i 0) ∙ sym (rows-of-within-at budget m i (zero-row 0) h less)));
           fits = fits-there m high named names enough

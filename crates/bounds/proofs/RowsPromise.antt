@@ -9,21 +9,23 @@ use Rattle.tree.specs.Report as definition
 use Rattle.tree.specs.Rows.{answer-with-rows, filled-rows, rows-after}
 use Rattle.tree.proofs.RowAnswers.{answer-by-rows, few-by-rows, rows-read-few}
 use Rattle.tree.proofs.RowTables.{rows-refused-over, rows-over-refused, rows-after-length, rows-after-beyond, rows-after-unchanged, rows-after-zero}
+use Rattle.tree.specs.Marks.{marks-with}
 use Rattle.accuracy.specs.Rule.{AccuracyRule}
 use Rattle.accuracy.specs.RowRule.{RowRule}
 use Rattle.accuracy.proofs.Theorem.{accuracy-theorem}
 use Rattle.accuracy.proofs.Rows.{row-theorem}
+use Rattle.accuracy.proofs.Exactness.{row-mark-theorem}
 use Rattle.rows.specs.Internal.Table.{row-count}
 use Rattle.rows.specs.Internal.Filling.{row-in, stored}
 use Rattle.rows.proofs.RowsStored.{stored-laid-over}
 use Rattle.bounds.proofs.Faithful.{faithful}
 use Rattle.bounds.specs.declared.Answer.{Answer}
-use Rattle.bounds.specs.Answers.{answer-of}
+use Rattle.bounds.specs.Answers.{answer-of, marks-of-answer}
 use Rattle.bounds.specs.Rows.{PromisedRows}
 use Rattle.bounds.specs.Internal.Measured.{Measured}
 
 module _ (ws : List ℕ) (budget : ℕ) (given left : List Row) (r : Answer) (is : answer-of r ≡ answer-with-rows ws budget (length given))
-    (rows : left ≡ rows-after ws budget given) where
+    (rows : left ≡ rows-after ws budget given) (marks : marks-of-answer r ≡ marks-with ws budget (answer-with-rows ws budget (length given))) where
   promised : (after : List ℕ) → after ≡ ws → PromisedRows ws after budget given left r
   promised after kept = record {
     answer-is = is;
@@ -39,6 +41,8 @@ module _ (ws : List ℕ) (budget : ℕ) (given left : List Row) (r : Answer) (is
     over-refused = λ m read e. rows-over-refused ws budget (length given) m read (sym is ∙ e);
     accuracy = record { accurate = λ m q read e. accuracy-theorem ws budget .accurate m q read (answer-by-rows ws budget (length given) (sym is ∙ e)) };
     rows-accurate = row-rule;
+    marks-are = marks;
+    marks-mean = rw (is, marks) (row-mark-theorem ws budget (length given));
     words-unchanged = kept;
     faithful = faithful;
   }
@@ -52,7 +56,7 @@ pub promise-rows : (before after : List ℕ) (budget : ℕ) (given left : List R
     → PromisedRows before after budget given left r
 unfolding rows-after
 promise-rows before after budget given left r table h e =
-    promised before budget given left r (h .answer-is) (e ∙ laid) after (h .words-unchanged)
+    promised before budget given left r (h .answer-is) (e ∙ laid) (h .marks-are) after (h .words-unchanged)
   where
     filled : List Row
     filled = filled-rows before budget (length given)

@@ -36,6 +36,7 @@ use Rattle.path.specs.Internal.Paths.{path-of}
 use Rattle.path.specs.Internal.Counts.{no-counts}
 use Rattle.rows.specs.Internal.Table.{NoTotals}
 use Rattle.rows.proofs.RowTotals.{empty-total, empty-rows, empty-gathered}
+use Rattle.rows.proofs.RowMarks.{empty-marks}
 use Rattle.bounds.specs.Internal.Walk.{Asked, asked, carried-in, carried-of, kept-of, visits-from, Ready, EndsOver, WalkedBeyond, WalkedTree}
 
 -- ---- an accepted reading
@@ -115,6 +116,7 @@ module _ {ws index : List ℕ} (indexes : Indexes ws index) {a : Accepted} (is :
           steps = 0;
         };
         rows = empty-rows empty i;
+        marks = empty-marks empty i;
       })
 
       pub walk-ready : Ready (lent ws index table) first

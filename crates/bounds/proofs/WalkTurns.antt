@@ -1,7 +1,7 @@
 -- One turn of the walk's loop: the exit is read, the path through it judged and noted, and walked beyond if it is continued. Assumes nothing.
 use Prim.Native.Nat.{ℕ, _+_, _-_, _^_, _≤_, _<_}
 use mathlib.Core.Path.{_≡_, refl, sym, ap, ap₂, _∙_, subst}
-use mathlib.Core.Bool.{true, false}
+use mathlib.Core.Bool.{true, false, _&&_}
 use mathlib.Core.List.{List, _∷_}
 use native.Mathlib.Omega.{arith}
 use native.Mathlib.Nat.{le-trans}
@@ -13,6 +13,7 @@ use borrow.Author.Tests.{lt-ltb, le-ltb}
 use Rattle.figure.specs.declared.Figure.{Figure}
 use Rattle.figure.specs.Rounding.{IsFigure}
 use Rattle.figure.specs.Operands.{Sized}
+use Rattle.figure.specs.Operations.{total-up, total-down}
 use Rattle.figure.proofs.Sized.{sized-≤}
 use Rattle.word.specs.Model.{Transition, Net, is-empty, exits}
 use Rattle.word.specs.Internal.Lists.{Each}
@@ -22,10 +23,11 @@ use Rattle.model.specs.Internal.Valid.{ValidTransition, Valid}
 use Rattle.model.proofs.Slots.{slot-below, slot-exit, slot-leaves}
 use Rattle.tree.specs.Paths.{Path}
 use Rattle.tree.specs.Lower.{lower}
+use Rattle.tree.specs.Marks.{Marks, path-marks}
 use Rattle.tree.specs.Tree.{Outcome, is-death, is-continued}
 use Rattle.tree.proofs.Outcomes.{is-continued-true}
 use Rattle.tree.proofs.Ranges.{any-upper-sized, prune-sized}
-use Rattle.tree.specs.Internal.Tally.{with-step, with-cut, with-death, noted, with-visit}
+use Rattle.tree.specs.Internal.Tally.{with-step, with-cut, with-death, row-with-death, marks-with-death, marks-with-cut, noted, with-visit}
 use Rattle.tree.specs.Internal.Carried.{Carried, Carries, carry, outcome-by, outcome-next}
 use Rattle.tree.proofs.Carried.{carry-upper, carry-carries, GoesOnBy, continued-by}
 use Rattle.tree.proofs.Going.{exit-totals, exit-within, exit-ended, exit-back, exit-below-over}
@@ -37,14 +39,17 @@ use Rattle.path.specs.declared.exits.Exit.{Exit}
 use Rattle.path.specs.Internal.Lent.{Lent, model-in, net-in, limits-in}
 use Rattle.path.specs.Internal.Paths.{path-of}
 use Rattle.path.specs.Internal.Counts.{Few, death-more, cut-more, step-more}
-use Rattle.rows.specs.Internal.Table.{NamesKept, DeathNoted, CutNoted, TableGathered}
+use Rattle.rows.specs.Internal.Table.{marks-in, NamesKept, DeathNoted, CutNoted, TableGathered}
 use Rattle.rows.proofs.RowTotals.{names-then, table-room, table-death, table-cut}
+use Rattle.rows.proofs.RowMarks.{and-true}
 use Rattle.path.specs.Internal.Outcomes.{outcome-of, judged}
 use Rattle.path.specs.Internal.Exits.{tip-after, ExitOf}
 use Rattle.path.specs.Internal.Deaths.{LastStep, Cached}
+use Rattle.bounds.specs.Internal.Marks.{path-with, upper-asked, asked-marks, Marked}
 use Rattle.bounds.specs.Internal.Walk.{Asked, asked, carried-of, carried-in, totals-of, kept-of, KeptCounted, Ready, Ends, EndsOver, visits-from}
 use Rattle.path.proofs.PathArrays.{below-same, path-longer, known-longer}
 use Rattle.path.proofs.VisitNoted.{note-death, note-step, note-cut}
+use Rattle.bounds.proofs.WalkMarks.{marked-gathered}
 use Rattle.bounds.proofs.WalkLoop.{Held, held, AtExit, step-counted, state-small, room, path-short, steps-valid, is-exit, ends-by}
 
 module _ (l : Lent) (a : Asked) (h : Held) (x : Exit) where
@@ -61,18 +66,24 @@ module _ (l : Lent) (a : Asked) (h : Held) (x : Exit) where
   judged-there =
       judged (exit-count (l .index) (x .tip .state)) (getD (h .entered) (x .tip .state) 0) (a .left - 1) (x .tip .upper) (a .task .level) (a .task .«entry_limit»)
 
-  -- the path up to the tip, and its lower with the exit
+  -- the path up to the tip; with the exit, its lower and its marks
   abbrev pub path-before : Path
   path-before = path-of (net-in l) (a .path) (a .tip .len)
 
+  abbrev pub path-there : Path
+  path-there = path-with (net-in l) (a .path) (a .tip) x
+
   abbrev pub lower-there : Figure
-  lower-there = lower (net-in l) (transition (net-in l) (x .index) ∷ path-before)
+  lower-there = lower (net-in l) path-there
+
+  abbrev pub marks-there : Marks
+  marks-there = path-marks (net-in l) path-there
 
   -- the path through it was judged and noted
   pub record Visited (o : Coded) (after : Counts) (cache : Cache) (rows : List ℕ) : Type 0 where
     pub turn : Turn
     pub judged-is : outcome-of o ≡ judged-there
-    pub kept-is : kept-of after rows ≡ noted (kept-of (h .made) (h .rows)) (outcome-of o) (x .tip .state) lower-there (x .tip .upper)
+    pub kept-is : kept-of after rows ≡ noted (kept-of (h .made) (h .rows)) (outcome-of o) (x .tip .state) lower-there (x .tip .upper) marks-there
     pub cached : Cached (net-in l) path-before (a .tip .state) cache
     pub counted : KeptCounted after rows
     pub names-kept : NamesKept (h .rows) rows
@@ -180,26 +191,28 @@ module _ {l : Lent} {a : Asked} {h : Held} {x : Exit} (w : Turn l a h x) where
   module _ (o : Coded) (is : outcome-of o ≡ judged-there l a h x) {after : Counts} where
     -- as a death, of the lower f
     pub death-noted : is-death (outcome-of o) ≡ true → {f : Figure} → Sized 9 35000 f → f ≡ lower-there l a h x → after ≡ death-more (h .made)
-        → {rows : List ℕ} → DeathNoted (x .tip .state) f (x .tip .upper) (h .rows) rows
+        → {mid rows : List ℕ} → Marked (asked-marks true net (path-there l a h x) f (x .tip .upper) (h .rows)) (h .rows) mid
+        → DeathNoted (x .tip .state) f (x .tip .upper) mid rows
         → {cache : Cache} → Cached net (path-before l a h x) (a .tip .state) cache → Visited l a h x o after cache rows
-    unfolding with-death
-    death-noted on {f} low f-is more {rows} k cached = record {
+    unfolding with-death marks-with-death
+    death-noted on {f} low f-is more {mid} {rows} m k cached = record {
       turn = w;
       judged-is = is;
-      kept-is = note-death _ _ _ _ _ same (k .rows-are) f-is on;
+      kept-is = note-death _ _ _ _ _ _ same (k .rows-are ∙ ap (λ r. row-with-death r (x .tip .state) f (x .tip .upper)) (m .rows-same))
+          (k .marks-same ∙ m .marks-are) f-is on;
       cached = cached;
       counted = rw more (record {
         counts = record { deaths = omega (arith, w .kept .counted .counts .deaths); cuts = omega (arith, w .kept .counted .counts .cuts) };
-        totals = table-death (w .kept .counted .totals) terms upper-fits low k;
+        totals = table-death (marked-gathered m (w .kept .counted .totals)) terms upper-fits low k;
       });
-      names-kept = k .names-kept;
+      names-kept = names-then (m .names-kept) (k .names-kept);
     }
       where
         same : totals-of after rows ≡ with-death (totals-of (h .made) (h .rows)) f (x .tip .upper)
         same = rw more (λ i. record {
-          lower = k .lower-is i;
-          death-upper = k .death-is i;
-          cut-upper = k .cut-same i;
+          lower = (k .lower-is ∙ ap (λ t. total-down t f) (m .totals-same 1002 (omega arith))) i;
+          death-upper = (k .death-is ∙ ap (λ t. total-up t (x .tip .upper)) (m .totals-same 1004 (omega arith))) i;
+          cut-upper = (k .cut-same ∙ m .totals-same 1006 (omega arith)) i;
           deaths = h .made .deaths + 1;
           cuts = h .made .cuts;
           steps = h .made .steps + 1;
@@ -211,7 +224,7 @@ module _ {l : Lent} {a : Asked} {h : Held} {x : Exit} (w : Turn l a h x) where
     step-noted on more = record {
       turn = w;
       judged-is = is;
-      kept-is = note-step _ _ _ _ _ (ap (λ c. totals-of c (h .rows)) more) refl on;
+      kept-is = note-step _ _ _ _ _ _ (ap (λ c. totals-of c (h .rows)) more) refl refl on;
       cached = w .kept .cached;
       counted = step-counted more (w .kept .counted);
       names-kept = record { size = refl; same = λ i low. refl };
@@ -219,25 +232,31 @@ module _ {l : Lent} {a : Asked} {h : Held} {x : Exit} (w : Turn l a h x) where
 
     -- as a cut
     pub cut-noted : is-death (outcome-of o) ≡ false → is-continued (outcome-of o) ≡ false → after ≡ cut-more (h .made)
-        → {rows : List ℕ} → CutNoted (x .tip .upper) (h .rows) rows → Visited l a h x o after (h .cache) rows
-    unfolding with-cut
-    cut-noted off ended more {rows} k = record {
+        → (f : Figure) {mid rows : List ℕ} → Marked (asked-marks false net (path-there l a h x) f (x .tip .upper) (h .rows)) (h .rows) mid
+        → CutNoted (x .tip .upper) mid rows → Visited l a h x o after (h .cache) rows
+    unfolding with-cut marks-with-cut
+    cut-noted off ended more f {mid} {rows} m k = record {
       turn = w;
       judged-is = is;
-      kept-is = note-cut _ _ _ _ _ same (k .rows-same) off ended;
+      kept-is = note-cut _ _ _ _ _ _ same (k .rows-same ∙ m .rows-same) (k .marks-same ∙ m .marks-are ∙ kept-lower) off ended;
       cached = w .kept .cached;
       counted = rw more (record {
         counts = record { deaths = omega (arith, w .kept .counted .counts .deaths); cuts = omega (arith, w .kept .counted .counts .cuts) };
-        totals = table-cut (w .kept .counted .totals) terms upper-fits k;
+        totals = table-cut (marked-gathered m (w .kept .counted .totals)) terms upper-fits k;
       });
-      names-kept = k .names-kept;
+      names-kept = names-then (m .names-kept) (k .names-kept);
     }
       where
+        -- the lower does not rest on a cut
+        kept-lower : _≡_ {A = Marks} (record { lower = marks-in (h .rows) .lower && true; upper = marks-in (h .rows) .upper && upper-asked net (path-there l a h x) (x .tip .upper) 1006 (h .rows) })
+            (record { lower = marks-in (h .rows) .lower; upper = marks-in (h .rows) .upper && upper-asked net (path-there l a h x) (x .tip .upper) 1006 (h .rows) })
+        kept-lower = λ i. record { lower = and-true (marks-in (h .rows) .lower) i; upper = marks-in (h .rows) .upper && upper-asked net (path-there l a h x) (x .tip .upper) 1006 (h .rows) }
+
         same : totals-of after rows ≡ with-cut (totals-of (h .made) (h .rows)) (x .tip .upper)
         same = rw more (λ i. record {
-          lower = k .lower-same i;
-          death-upper = k .death-same i;
-          cut-upper = k .cut-is i;
+          lower = (k .lower-same ∙ m .totals-same 1002 (omega arith)) i;
+          death-upper = (k .death-same ∙ m .totals-same 1004 (omega arith)) i;
+          cut-upper = (k .cut-is ∙ ap (λ t. total-up t (x .tip .upper)) (m .totals-same 1006 (omega arith))) i;
           deaths = h .made .deaths;
           cuts = h .made .cuts + 1;
           steps = h .made .steps + 1;
@@ -279,8 +298,9 @@ module _ {l : Lent} {a : Asked} {h : Held} {x : Exit} {o : Coded} {after : Count
       ∙ exit-totals (net w) (limits-in l) (a .task .budget) (a .left - 1) (here w) (kept-of (a .counts) (a .rows)) (h .i) (kept-of (h .made) (h .rows)) on-exit
       (w .kept .going) (to-small w) (w .ready .carries)
     where
-      same : noted (kept-of (h .made) (h .rows)) (outcome-of o) (x .tip .state) (lower-there l a h x) (x .tip .upper)
+      same : noted (kept-of (h .made) (h .rows)) (outcome-of o) (x .tip .state) (lower-there l a h x) (x .tip .upper) (marks-there l a h x)
           ≡ noted (kept-of (h .made) (h .rows)) (outcome-there w) (exit w .to) (lower (net w) (exit w ∷ path-before l a h x)) (next w .upper)
+          (path-marks (net w) (exit w ∷ path-before l a h x))
       same =
           let p = outcome-is in
           let q = exit-is w in

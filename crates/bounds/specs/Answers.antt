@@ -9,7 +9,9 @@ use Rattle.model.specs.Reading as reading
 use Rattle.word.specs.Refusal.{number, place}
 use Rattle.tree.specs.Tree.{tree}
 use Rattle.tree.specs.Report as definition
+use Rattle.tree.specs.Marks.{Marks, no-marks, marks-with}
 use Rattle.accuracy.specs.Rule.{AccuracyRule}
+use Rattle.accuracy.specs.Exactness.{MarkRule}
 use Rattle.bounds.specs.Faithful.{Faithful}
 use Rattle.bounds.specs.declared.Report.{Report}
 use Rattle.bounds.specs.declared.Answer.{Answer}
@@ -23,6 +25,15 @@ abbrev pub answer-of : Answer → answers.Answer definition.Report
 answer-of (reported r) = answers.granted (report-of r)
 answer-of (Refused f) = answers.refused (number f) (place f)
 
+-- the two marks of a report, and of an answer: "(in a refusal both are 0)"
+
+abbrev pub marks-of : Report → Marks
+marks-of r = record { lower = r .«lower_exact»; upper = r .«upper_exact» }
+
+abbrev pub marks-of-answer : Answer → Marks
+marks-of-answer (reported r) = marks-of r
+marks-of-answer (Refused f) = no-marks
+
 -- What `unreliability` promises, of the words before and after, the budget and its answer.
 pub record Promised (before after : List ℕ) (budget : ℕ) (r : Answer) : Type 0 where
   -- demands 1 and 2: the answer is the definition's, a report with its figures and counts or a refusal with its number and place
@@ -31,6 +42,9 @@ pub record Promised (before after : List ℕ) (budget : ℕ) (r : Answer) : Type
   pub values-are : definition.values (answer-of r) ≡ definition.values (definition.answer before budget)
   -- demand 3: the accuracy rule
   pub accuracy : AccuracyRule before budget (answer-of r)
+  -- document 02, Item 2: the marks are the definition's, and a mark 1 means that the figure equals its exact sum
+  pub marks-are : marks-of-answer r ≡ marks-with before budget (definition.answer before budget)
+  pub marks-mean : MarkRule before budget (answer-of r) (marks-of-answer r)
   -- the lent words are unchanged
   pub words-unchanged : after ≡ before
   -- in a report the steps are the count of paths in the cut tree

@@ -4,6 +4,7 @@ use Rattle.figure.specs.Faithful.{FaithfulFigures}
 use Rattle.model.specs.Reasons.{ReasonIsRefused, RefusalHasReason}
 use Rattle.tree.specs.Faithful.{FaithfulTree}
 use Rattle.tree.specs.RowsFaithful.{FaithfulRows}
+use Rattle.tree.specs.MarksFaithful.{FaithfulMarks}
 use Rattle.accuracy.specs.Faithful.{FaithfulExact}
 
 pub record Faithful : Type 0 where
@@ -18,3 +19,5 @@ pub record Faithful : Type 0 where
   pub exact : FaithfulExact
   -- document 02, Item 1: the rows
   pub rows : FaithfulRows
+  -- document 02, Item 2: the marks
+  pub marks : FaithfulMarks

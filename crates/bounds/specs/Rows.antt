@@ -10,10 +10,12 @@ use Rattle.tree.specs.declared.Row.{Row}
 use Rattle.tree.specs.Tree.{tree}
 use Rattle.tree.specs.Report as definition
 use Rattle.tree.specs.Rows.{row-states, zero-row, read-with-rows, answer-with-rows, laid-over, rows-after}
+use Rattle.tree.specs.Marks.{marks-with}
 use Rattle.accuracy.specs.Rule.{AccuracyRule}
+use Rattle.accuracy.specs.Exactness.{MarkRule}
 use Rattle.accuracy.specs.RowRule.{RowRule}
 use Rattle.bounds.specs.Faithful.{Faithful}
-use Rattle.bounds.specs.Answers.{answer-of}
+use Rattle.bounds.specs.Answers.{answer-of, marks-of-answer}
 use Rattle.bounds.specs.declared.Answer.{Answer}
 
 -- What `unreliability_by_state` promises, of the words before and after, the budget, the rows before and after, and its answer.
@@ -46,6 +48,9 @@ pub record PromisedRows (before after : List ℕ) (budget : ℕ) (given left : L
   -- demand 3, of the report and of each row filled
   pub accuracy : AccuracyRule before budget (answer-of r)
   pub rows-accurate : RowRule before budget (answer-of r) given left
+  -- document 02, Item 2: the marks are the definition's, and a mark 1 means that the figure equals its exact sum
+  pub marks-are : marks-of-answer r ≡ marks-with before budget (answer-with-rows before budget (length given))
+  pub marks-mean : MarkRule before budget (answer-of r) (marks-of-answer r)
   -- the lent words are unchanged
   pub words-unchanged : after ≡ before
   -- the definitions that all this rests on are what the documents say of them

@@ -5,9 +5,9 @@ ghost use Rattle.model.specs.Promise.{summary};
 ghost use Rattle.tree.specs.Internal.Tally as running;
 ghost use Rattle.tables.specs.Internal.Described.{Indexes, described};
 ghost use Rattle.rows.specs.Internal.Table.{NoTotals, TableGathered};
-ghost use Rattle.bounds.specs.Internal.Walk.{WalkedTree, totals-of};
+ghost use Rattle.bounds.specs.Internal.Walk.{WalkedTree, kept-of, totals-of};
 ghost use Rattle.bounds.specs.Internal.Measured.{Measured};
-ghost use Rattle.bounds.specs.Answers.{Promised, report-of};
+ghost use Rattle.bounds.specs.Answers.{Promised, marks-of, report-of};
 ghost use Rattle.bounds.specs.Rows.{PromisedRows};
 use crate::walk::Task;
 use crate::walk::walk;
@@ -23,16 +23,20 @@ use rows::fill_rows;
 use rows::names::clear;
 use rows::names::name_rows;
 use rows::table::RowTable;
+use rows::table::is_kept;
 use rows::table::total_at;
 use tables::figures::figure_of;
 use tables::fill;
+use tables::pack::both;
 use tables::table::Table;
 use tree::Row;
 use word::Refusal;
 
+mod marks;
 mod walk;
 
-// The lower and the upper figure, the cut paths' part of the upper, and the counts of death paths, cut paths and steps.
+// The lower and the upper figure, the cut paths' part of the upper, the counts of death paths, cut paths and steps, and whether no operation that the
+// lower or the upper figure rests on lost anything: then it equals its exact sum.
 pub struct Report {
     pub lower: Figure,
     pub upper: Figure,
@@ -40,6 +44,8 @@ pub struct Report {
     pub deaths: u64,
     pub cuts: u64,
     pub steps: u64,
+    pub lower_exact: bool,
+    pub upper_exact: bool,
 }
 
 pub enum Answer {
@@ -87,17 +93,21 @@ fn walked(words: &[u32], index: &Index, a: Accepted, budget: u64, rows: &mut Row
     )
 }
 
-// The figures to nine digits.
+// The figures to nine digits, and the marks with these last roundings.
 fn reported(c: Counts, rows: &RowTable) -> Report
     requires { ⌜ TableGathered 1000000 (now rows) ⌝ }
-    ensures { λ r. ⌜ report-of r ≡ running.finish (totals-of c (now (rows .entry))) ⌝ }
+    ensures { λ r. ⌜ (report-of r ≡ running.finish (totals-of c (now (rows .entry)))) × (marks-of r ≡ running.finish-marks (kept-of c (now (rows .entry)))) ⌝ }
 {
     let lowers = total_at(rows, 1002);
     let died = total_at(rows, 1004);
     let cut_off = total_at(rows, 1006);
-    let lower = lowers.to_nine_down();
-    let upper = died.sum_to_nine_up(cut_off);
+    let low = lowers.to_nine_down_telling();
+    let high = died.sum_to_nine_up_telling(cut_off);
+    let lower = low.figure;
+    let upper = high.figure;
     let cut = cut_off.to_nine_up();
+    let lower_exact = both(is_kept(rows, 1008), low.kept);
+    let upper_exact = both(is_kept(rows, 1009), high.kept);
     Report {
         lower,
         upper,
@@ -105,6 +115,8 @@ fn reported(c: Counts, rows: &RowTable) -> Report
         deaths: c.deaths,
         cuts: c.cuts,
         steps: c.steps,
+        lower_exact,
+        upper_exact,
     }
 }
 
@@ -139,7 +151,7 @@ fn measured(words: &[u32], budget: u64, lent: usize, rows: &mut RowTable) -> Ans
 pub fn unreliability(words: &[u32], budget: u64) -> Answer
     ensures { λ r. ⌜ Promised (now (words .entry)) (now (words .exit)) budget r ⌝ }
 {
-    let mut rows: RowTable = [0; 5012];
+    let mut rows: RowTable = [0; 5014];
     measured(words, budget, 1000, &mut rows)
 }
 
@@ -148,7 +160,7 @@ pub fn unreliability(words: &[u32], budget: u64) -> Answer
 pub fn unreliability_by_state(words: &[u32], budget: u64, rows: &mut [Row]) -> Answer
     ensures { λ r. ⌜ PromisedRows (now (words .entry)) (now (words .exit)) budget (now (rows .entry)) (now (rows .exit)) r ⌝ }
 {
-    let mut table: RowTable = [0; 5012];
+    let mut table: RowTable = [0; 5014];
     let lent = rows.len();
     let answer = measured(words, budget, lent, &mut table);
     fill_rows(rows, &table);

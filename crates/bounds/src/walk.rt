@@ -1,6 +1,7 @@
 // The walk over the cut tree.
 ghost use Rattle.path.specs.Internal.Lent.{lent};
 ghost use Rattle.bounds.specs.Internal.Walk.{Ready, WalkedBeyond, asked};
+use crate::marks::mark_ended;
 use figure::Figure;
 use model::index::Index;
 use model::index::exit_count;
@@ -16,6 +17,8 @@ use path::outcome::is_continued;
 use path::outcome::is_death;
 use path::outcome::judge;
 use rows::table::RowTable;
+use rows::table::is_kept;
+use rows::table::is_open;
 use rows::table::note_cut;
 use rows::table::note_death;
 use tables::table::Table;
@@ -70,6 +73,20 @@ pub(crate) fn walk(
             let died = death(words, index, table, time, path, tip, nth, exit, cache);
             let lower = died.lower;
             cache = died.cache;
+            if is_open(rows) {
+                mark_ended(
+                    words,
+                    index,
+                    table,
+                    time,
+                    path,
+                    tip,
+                    exit,
+                    true,
+                    lower,
+                    rows,
+                );
+            }
             note_death(rows, to, lower, upper);
             made = with_death(made);
         } else if is_continued(o) {
@@ -93,6 +110,20 @@ pub(crate) fn walk(
                 return made;
             }
         } else {
+            if is_kept(rows, 1009) {
+                mark_ended(
+                    words,
+                    index,
+                    table,
+                    time,
+                    path,
+                    tip,
+                    exit,
+                    false,
+                    Figure::zero(),
+                    rows,
+                );
+            }
             note_cut(rows, upper);
             made = with_cut(made);
         }

@@ -24,7 +24,7 @@ use Rattle.figure.proofs.Value.{val, value-is}
 use Rattle.figure.proofs.Operations.{up-minus, down-minus}
 use Rattle.figure.proofs.Stored.{stored, kept, mag-difference, read-difference, read-test}
 use Rattle.figure.proofs.Parts.{parts, some-left, at-part}
-use Rattle.figure.proofs.Rounded.{Over, rounded-part}
+use Rattle.figure.proofs.PartsRounded.{Over, rounded-part}
 use Rattle.figure.proofs.Figures.{digits-high, digits-low, zero-is-none, zero-num, room, rounded-own, rounded-zero, rounded-same, over-tens}
 use Rattle.figure.proofs.Orders.{above-strictly, lower-value}
 

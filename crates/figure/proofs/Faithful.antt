@@ -2,6 +2,7 @@
 use Rattle.figure.specs.Faithful.{FaithfulFigures}
 use Rattle.figure.proofs.Rounding.{up-is-up, up-unique, down-is-down, down-unique, up-none, down-none}
 use Rattle.figure.proofs.Exact.{times-ten-exact, of-whole-exact, of-quantity-exact}
+use Rattle.figure.proofs.Losses.{keeps-up, up-kept, keeps-down, down-kept, none-kept, whole-kept, quantity-kept}
 
 pub faithful-figures : FaithfulFigures
 faithful-figures = record {
@@ -14,4 +15,11 @@ faithful-figures = record {
   power-of-ten-exact = times-ten-exact;
   whole-exact = of-whole-exact;
   quantity-exact = of-quantity-exact;
+  up-keeps = keeps-up;
+  up-kept = up-kept;
+  down-keeps = keeps-down;
+  down-kept = down-kept;
+  none-kept = none-kept;
+  whole-kept = whole-kept;
+  quantity-kept = quantity-kept;
 }

@@ -21,7 +21,7 @@ use Rattle.figure.proofs.Rounding.{up-of-figure, down-of-figure, up-res
 use Rattle.figure.proofs.Up as Up
 use Rattle.figure.proofs.Down as Down
 use Rattle.figure.proofs.Stored.{stored, kept, mag-sum, read-sum}
-use Rattle.figure.proofs.Rounded.{Over, over-lift}
+use Rattle.figure.proofs.PartsRounded.{Over, over-lift}
 
 -- ---- digits and powers
 

@@ -8,11 +8,13 @@ pub mod Rounding
 pub mod Operations
 pub mod Positive
 pub mod Exact
+pub mod Losses
+pub mod Tellings
 pub mod Faithful
 pub mod Reach
 pub mod Stored
 pub mod Parts
-pub mod Rounded
+pub mod PartsRounded
 pub mod Figures
 pub mod Sized
 pub mod Gathered

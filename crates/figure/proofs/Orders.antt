@@ -98,7 +98,7 @@ module _ (a b : Figure) where
   second-zero n z = found-above a b (λ h. not-zero (val a) (b .power) (multiple-pos (a .digits) (a .power) (pos-of-ne-zero n)) (rw z at h))
 
   module _ (fa : SFits w32 (a .power)) (fb : SFits w32 (b .power)) where
-    same-power-is : ofZ w32 (a .power) ≡ ofZ w32 (b .power) → a .power ≡ b .power
+    pub same-power-is : ofZ w32 (a .power) ≡ ofZ w32 (b .power) → a .power ≡ b .power
     same-power-is e = sym (toZ-ofZ fa) ∙ ap (toZ w32) e ∙ toZ-ofZ fb
 
     pub one-power : ofZ w32 (a .power) ≡ ofZ w32 (b .power) → leb (a .digits) (b .digits) ≡ at-or-below a b

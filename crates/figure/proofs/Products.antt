@@ -26,7 +26,7 @@ use Rattle.figure.proofs.Value.{val}
 use Rattle.figure.proofs.Operations.{value-times}
 use Rattle.figure.proofs.Stored.{stored, kept, kept-near, mag-sum, read-sum}
 use Rattle.figure.proofs.Parts.{part-below}
-use Rattle.figure.proofs.Rounded.{rounded-part}
+use Rattle.figure.proofs.PartsRounded.{rounded-part}
 use Rattle.figure.proofs.Figures.{digits-high, digits-low, room, rounded-zero, over-tens}
 
 -- ---- the scaling

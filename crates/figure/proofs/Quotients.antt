@@ -25,7 +25,7 @@ use Rattle.figure.proofs.Value.{val}
 use Rattle.figure.proofs.Operations.{value-divided}
 use Rattle.figure.proofs.Stored.{stored, kept, kept-near, mag-difference, read-difference}
 use Rattle.figure.proofs.Parts.{part-below}
-use Rattle.figure.proofs.Rounded.{Over, rounded-part}
+use Rattle.figure.proofs.PartsRounded.{Over, rounded-part}
 use Rattle.figure.proofs.Figures.{digits-high, digits-low, zero-is-none, room, rounded-zero}
 
 -- ---- the exact quotient

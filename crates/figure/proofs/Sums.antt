@@ -27,7 +27,7 @@ use Rattle.figure.proofs.Value.{val, value-is}
 use Rattle.figure.proofs.Operations.{value-plus}
 use Rattle.figure.proofs.Stored.{stored, kept, read-difference, gap-pos, in-order, out-of-order}
 use Rattle.figure.proofs.Parts.{parts, some, some-left, at-part, part-split, digits-fit}
-use Rattle.figure.proofs.Rounded.{Over, rounded-trimmed}
+use Rattle.figure.proofs.PartsRounded.{Over, rounded-trimmed}
 use Rattle.figure.proofs.Figures.{digits-high, digits-low, room, rounded-own, rounded-same}
 
 -- ---- a number over a high power of ten: nothing of it is left but that there was something

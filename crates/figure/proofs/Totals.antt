@@ -21,7 +21,7 @@ use Rattle.figure.proofs.Value.{val, value-is}
 use Rattle.figure.proofs.Operations.{value-plus}
 use Rattle.figure.proofs.Stored.{stored, kept, mag-sum, mag-difference, read-sum, read-difference}
 use Rattle.figure.proofs.Parts.{part-below, shorter-part, shorter-small}
-use Rattle.figure.proofs.Rounded.{over-lift, rounded-part, rounded-trimmed}
+use Rattle.figure.proofs.PartsRounded.{over-lift, rounded-part, rounded-trimmed}
 use Rattle.figure.proofs.Figures.{digits-high, digits-low, zero-is-none, room, rounded-own, rounded-same, over-tens}
 use Rattle.figure.proofs.Sums.{aligned-small, sum-over}
 

@@ -22,7 +22,7 @@ use Rattle.figure.proofs.Value.{value-is}
 use Rattle.figure.proofs.Exact.{over-ten}
 use Rattle.figure.proofs.Stored.{stored, kept, kept-near, mag-sum, mag-difference, mag-negative, read-sum, read-difference}
 use Rattle.figure.proofs.Parts.{part-below}
-use Rattle.figure.proofs.Rounded.{rounded-part}
+use Rattle.figure.proofs.PartsRounded.{rounded-part}
 use Rattle.figure.proofs.Figures.{zero-num, rounded-own, rounded-zero, rounded-same, over-tens}
 
 -- ---- the number of digits
@@ -112,8 +112,9 @@ module _ {n r t : ℕ} (d : Count 20 n r) (h : 9 < r) (t-is : t ≡ 10 ^ (r - 9)
 
 -- ---- whole numbers and quantities
 
-pub of-whole-answer : (n : ℕ) {r : Figure} → r ≡ down 9 (value (figure n (pos 0))) → r ≡ down 9 (whole n)
-of-whole-answer n e = e ∙ ap (down 9) (value-is (figure n (pos 0))) ∙ rounded-same false 8 (ten-units n) ∙ ap (down 9) (signed-whole n)
+pub of-whole-answer : (upward : Bool) (n : ℕ) {r : Figure} → r ≡ rounded upward 9 (value (figure n (pos 0))) → r ≡ rounded upward 9 (whole n)
+of-whole-answer upward n e =
+    e ∙ ap (rounded upward 9) (value-is (figure n (pos 0))) ∙ rounded-same upward 8 (ten-units n) ∙ ap (rounded upward 9) (signed-whole n)
 
 module _ (p : ℕ) {z : ℤ} (h : p ≤ 255) (z-is : z ≡ negℤ (pos p)) where
   power-kept : stored z ≡ negℤ (pos p)
@@ -122,6 +123,8 @@ module _ (p : ℕ) {z : ℤ} (h : p ≤ 255) (z-is : z ≡ negℤ (pos p)) where
   pub quantity-power : mag (stored z) ≤ 200000
   quantity-power = rw power-kept (omega (arith, mag-negative (pos p)))
 
-  pub quantity-answer : (c : ℕ) {m : ℕ} {r : Figure} → m ≡ c → r ≡ up 9 (value (figure m (stored z))) → r ≡ up 9 (ratio (pos c) (10 ^ p))
-  quantity-answer c f g = g ∙ ap₂ (λ n y. up 9 (value (figure n y))) f power-kept
-      ∙ ap (up 9) (value-is (figure c (negℤ (pos p)))) ∙ rounded-same true 8 (≈-sym (over-ten c p)) ∙ ap (up 9) (signed-ratio c (10 ^ p))
+  pub quantity-answer : (upward : Bool) (c : ℕ) {m : ℕ} {r : Figure} → m ≡ c → r ≡ rounded upward 9 (value (figure m (stored z)))
+      → r ≡ rounded upward 9 (ratio (pos c) (10 ^ p))
+  quantity-answer upward c f g = g ∙ ap₂ (λ n y. rounded upward 9 (value (figure n y))) f power-kept
+      ∙ ap (rounded upward 9) (value-is (figure c (negℤ (pos p)))) ∙ rounded-same upward 8 (≈-sym (over-ten c p))
+      ∙ ap (rounded upward 9) (signed-ratio c (10 ^ p))

@@ -2,11 +2,13 @@
 -- `faithful-figures` (crates/figure/proofs/Faithful.antt). K, the number of digits, is w + 1. Assumes nothing: these are statements.
 use mathlib.Core.Path.{_≡_}
 use Prim.Native.Nat.{ℕ, suc, _^_, _<_}
+use mathlib.Core.Bool.{true}
 use lib.IntN.{ℤ, pos}
 use Rattle.fraction.specs.Fraction.{Fraction, _≤ᶠ_, _≈ᶠ_, whole, ratio, ten, _*ᶠ_}
 use Rattle.figure.specs.declared.Figure.{Figure}
 use Rattle.figure.specs.Rounding.{none, value, IsUp, IsDown, up, down}
 use Rattle.figure.specs.Operations.{times-ten, of-whole, of-quantity}
+use Rattle.figure.specs.Losses.{keeps, whole-keeps, quantity-keeps}
 
 -- ---- the roundings
 
@@ -43,6 +45,35 @@ WholeExact = (n : ℕ) → n < 10 ^ 9 → value (of-whole n) ≈ᶠ whole n
 abbrev pub QuantityExact : Type 0
 QuantityExact = (c p : ℕ) → c < 10 ^ 9 → value (of-quantity c p) ≈ᶠ ratio (pos c) (10 ^ p)
 
+-- ---- what a rounding tells (document 02, Item 2)
+
+-- where it loses nothing, the figure is x, whichever way it rounds; and where the figure is x, nothing is lost
+
+abbrev pub UpKeeps : Type 0
+UpKeeps = (w : ℕ) (x : Fraction) → whole 0 ≤ᶠ x → keeps (suc w) x ≡ true → value (up (suc w) x) ≈ᶠ x
+
+abbrev pub UpKept : Type 0
+UpKept = (w : ℕ) (x : Fraction) → value (up (suc w) x) ≈ᶠ x → keeps (suc w) x ≡ true
+
+abbrev pub DownKeeps : Type 0
+DownKeeps = (w : ℕ) (x : Fraction) → whole 0 ≤ᶠ x → keeps (suc w) x ≡ true → value (down (suc w) x) ≈ᶠ x
+
+abbrev pub DownKept : Type 0
+DownKept = (w : ℕ) (x : Fraction) → whole 0 ≤ᶠ x → value (down (suc w) x) ≈ᶠ x → keeps (suc w) x ≡ true
+
+-- what is not positive
+
+abbrev pub NoneKept : Type 0
+NoneKept = (K : ℕ) (x : Fraction) → x ≤ᶠ whole 0 → keeps K x ≡ true
+
+-- what needs no mark
+
+abbrev pub WholeKept : Type 0
+WholeKept = (n : ℕ) → n < 10 ^ 9 → whole-keeps n ≡ true
+
+abbrev pub QuantityKept : Type 0
+QuantityKept = (c p : ℕ) → c < 10 ^ 9 → quantity-keeps c p ≡ true
+
 -- ---- all of it
 
 pub record FaithfulFigures : Type 0 where
@@ -60,3 +91,13 @@ pub record FaithfulFigures : Type 0 where
   -- whole numbers of up to nine digits, and quantities ("c is 1 to 999,999"), are figures
   pub whole-exact : WholeExact
   pub quantity-exact : QuantityExact
+  -- document 02, Item 2: "Each rounding operation shall tell if it lost anything."
+  pub up-keeps : UpKeeps
+  pub up-kept : UpKept
+  pub down-keeps : DownKeeps
+  pub down-kept : DownKept
+  -- "(setting a difference to 0 loses nothing)"
+  pub none-kept : NoneKept
+  -- 2, k, k + 1 and n, and a quantity of the table, are figures: making them figures loses nothing
+  pub whole-kept : WholeKept
+  pub quantity-kept : QuantityKept

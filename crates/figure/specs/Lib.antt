@@ -1,5 +1,6 @@
 pub mod Rounding
 pub mod Operations
 pub mod Operands
+pub mod Losses
 pub mod Faithful
 pub mod Internal

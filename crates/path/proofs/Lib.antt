@@ -4,5 +4,9 @@ pub mod ExitReading
 pub mod PathSums
 pub mod PathSteps
 pub mod PathArrays
+pub mod StepMarks
+pub mod MarkFacts
+pub mod PathMarks
+pub mod LowerMarks
 pub mod DeathStems
 pub mod DeathCache

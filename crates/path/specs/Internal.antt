@@ -4,3 +4,4 @@ pub mod Counts
 pub mod Outcomes
 pub mod Exits
 pub mod Deaths
+pub mod Marks

@@ -3,4 +3,5 @@ pub mod counts;
 pub mod deaths;
 pub mod exits;
 mod lower;
+pub mod marks;
 pub mod outcome;

@@ -28,13 +28,13 @@ use word::fields::from;
 use word::fields::is_fast;
 
 // The class of a step, and the state that it leaves.
-struct Leaving {
+pub(crate) struct Leaving {
     pub class: Class,
     pub state: usize,
 }
 
 // Those of the transition j.
-fn left_by(words: &[u32], index: &Index, table: &Table, j: usize) -> Leaving
+pub(crate) fn left_by(words: &[u32], index: &Index, table: &Table, j: usize) -> Leaving
     requires { ⌜ Filled (lent (now words) (now index) (now table)) × (j < length (net-of (now words) .table)) ⌝ }
     ensures { λ r. ⌜ class-for (r .class) ≡ step-class (net-of (now (words .entry))) j ⌝ }
     ensures { λ r. ⌜ r .state ≡ (transition (net-of (now (words .entry))) j) .from ⌝ }

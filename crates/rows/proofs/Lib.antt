@@ -1,3 +1,4 @@
 pub mod RowTotals
+pub mod RowMarks
 pub mod RowNames
 pub mod RowsStored

@@ -130,7 +130,7 @@ unfolding listed
 listed-begin = record { count-is = refl; states-are = λ i h. absurd (omega (arith, h)); size = refl; behind = λ i h. refl }
 
 -- The table after the states from 1 to n were looked at: k of them were written.
-module _ {index targets before after : List ℕ} {n k : ℕ} (few : n < 1000) (size : length before ≡ 5012) (h : Listed index targets n before after k) where
+module _ {index targets before after : List ℕ} {n k : ℕ} (few : n < 1000) (size : length before ≡ 5014) (h : Listed index targets n before after k) where
   listed-few : (i : ℕ) → length (listed index targets i) ≤ i
   unfolding listed
   listed-few zero = omega arith
@@ -215,7 +215,7 @@ module _ {ws index : List ℕ} (indexes : Indexes ws index) {targets : List ℕ}
       ∙ ap (λ l. only (has-row net) l) (ap (λ (x : ℕ). numbers-from n 1 ++ (x ∷ [])) (omega arith) ∙ sym (numbers-last n 1))
 
   -- a table of zeros, with the states written and then their number
-  module _ {before after : List ℕ} {n : ℕ} (cleared : before ≡ replicate 5012 0)
+  module _ {before after : List ℕ} {n : ℕ} (cleared : before ≡ replicate 5014 0)
       (h : Listed index targets ((described ws) .states) before after n) where
     listed-all : listed index targets ((described ws) .states) ≡ row-states (described ws)
     unfolding row-states
@@ -223,7 +223,7 @@ module _ {ws index : List ℕ} (indexes : Indexes ws index) {targets : List ℕ}
 
     zero-behind : (i : ℕ) → 1002 ≤ i → getD (set after 0 n) i 0 ≡ 0
     zero-behind i far =
-        getD-set-other after 0 i n 0 (λ e. absurd (omega (arith, e))) ∙ h .behind i far ∙ ap (λ l. getD l i 0) cleared ∙ all-zero 5012 i
+        getD-set-other after 0 i n 0 (λ e. absurd (omega (arith, e))) ∙ h .behind i far ∙ ap (λ l. getD l i 0) cleared ∙ all-zero 5014 i
 
     pub named : Named (described ws) (set after 0 n) n
     named = record {
@@ -233,5 +233,5 @@ module _ {ws index : List ℕ} (indexes : Indexes ws index) {targets : List ℕ}
       no-totals = record { size = length-set after 0 n ∙ long; zeros = zero-behind };
     }
       where
-        long : length after ≡ 5012
+        long : length after ≡ 5014
         long = h .size ∙ ap length cleared

@@ -22,7 +22,7 @@ use Rattle.tree.specs.Internal.Tally.{RowTotals, row-totals-with, row-with-deat
 use Rattle.tree.proofs.Ranges.{total-up-more, total-down-more, total-same, total-operand}
 use Rattle.tree.proofs.Ranges.{total-none as no-total}
 use Rattle.tables.proofs.Packed.{raised-back}
-use Rattle.rows.specs.Internal.Table.{total-of, total-in, totals-in, Put, NamesKept, DeathNoted, CutNoted, NoTotals, TotalOf, RowGathered, TableGathered}
+use Rattle.rows.specs.Internal.Table.{total-of, total-in, marks-in, totals-in, Put, NamesKept, DeathNoted, CutNoted, NoTotals, TotalOf, RowGathered, TableGathered}
 
 -- ---- one total
 
@@ -83,9 +83,9 @@ put-same e put = record { total-is = put .total-is ∙ e; size = put .size; else
 
 -- ---- one death path more
 
-module _ {before mid after : List ℕ} (s : ℕ) {f g : Figure} (first : Put (1008 + s * 4) f before mid) (second : Put (1008 + s * 4 + 2) g mid after) where
+module _ {before mid after : List ℕ} (s : ℕ) {f g : Figure} (first : Put (1010 + s * 4) f before mid) (second : Put (1010 + s * 4 + 2) g mid after) where
   abbrev at : ℕ
-  at = 1008 + s * 4
+  at = 1010 + s * 4
 
   -- what stands before and behind the state's totals is as it was
   in-front : (i : ℕ) → i < at → getD after i 0 ≡ getD before i 0
@@ -122,12 +122,12 @@ module _ {before mid after : List ℕ} (s : ℕ) {f g : Figure} (first : Put (10
     here = λ i. record { lower = (lower-there ∙ low) i; upper = (second .total-is ∙ high) i }
 
     -- another state's totals
-    other : (q : ℕ) → ((i : ℕ) → 1008 + q * 4 ≤ i → i ≤ 1008 + q * 4 + 3 → getD after i 0 ≡ getD before i 0) → totals-in after q ≡ totals-in before q
+    other : (q : ℕ) → ((i : ℕ) → 1010 + q * 4 ≤ i → i ≤ 1010 + q * 4 + 3 → getD after i 0 ≡ getD before i 0) → totals-in after q ≡ totals-in before q
     unfolding totals-in
     other q same =
         λ i. record {
-          lower = total-of (same (1008 + q * 4) (omega arith) (omega arith) i) (same (1008 + q * 4 + 1) (omega arith) (omega arith) i);
-          upper = total-of (same (1008 + q * 4 + 2) (omega arith) (omega arith) i) (same (1008 + q * 4 + 2 + 1) (omega arith) (omega arith) i);
+          lower = total-of (same (1010 + q * 4) (omega arith) (omega arith) i) (same (1010 + q * 4 + 1) (omega arith) (omega arith) i);
+          upper = total-of (same (1010 + q * 4 + 2) (omega arith) (omega arith) i) (same (1010 + q * 4 + 2 + 1) (omega arith) (omega arith) i);
         }
 
     at-each : (q : ℕ) → totals-in after q ≡ row-with-death (totals-in before) s l u q
@@ -168,12 +168,27 @@ module _ {before after : List ℕ} {at : ℕ} {f : Figure} (put : Put at f befor
     same = λ i low. put .elsewhere i (λ e. absurd (omega (arith, e))) (λ e. absurd (omega (arith, e)));
   }
 
+  -- the marks stand behind the report's totals and before those of rows
+  pub marks-before : 1009 < at → marks-in after ≡ marks-in before
+  unfolding marks-in
+  marks-before h = λ i. record {
+    lower = eqb (put .elsewhere 1008 (λ e. absurd (omega (arith, e))) (λ e. absurd (omega (arith, e))) i) 0;
+    upper = eqb (put .elsewhere 1009 (λ e. absurd (omega (arith, e))) (λ e. absurd (omega (arith, e))) i) 0;
+  }
+
+  pub marks-behind : at + 1 < 1008 → marks-in after ≡ marks-in before
+  unfolding marks-in
+  marks-behind h = λ i. record {
+    lower = eqb (put .elsewhere 1008 (λ e. absurd (omega (arith, e))) (λ e. absurd (omega (arith, e))) i) 0;
+    upper = eqb (put .elsewhere 1009 (λ e. absurd (omega (arith, e))) (λ e. absurd (omega (arith, e))) i) 0;
+  }
+
   -- a total of the report's: no row is touched
-  pub rows-stay : at + 1 < 1008 → totals-in after ≡ totals-in before
+  pub rows-stay : at + 1 < 1010 → totals-in after ≡ totals-in before
   unfolding totals-in
   rows-stay h = λ i q. record {
-    lower = total-behind (1008 + q * 4) (omega arith) i;
-    upper = total-behind (1008 + q * 4 + 2) (omega arith) i;
+    lower = total-behind (1010 + q * 4) (omega arith) i;
+    upper = total-behind (1010 + q * 4 + 2) (omega arith) i;
   }
 
 pub names-then : {a b c : List ℕ} → NamesKept a b → NamesKept b c → NamesKept a c
@@ -185,13 +200,14 @@ cut-noted put = record {
   death-same = total-below put 1004 (omega arith);
   cut-is = put .total-is;
   rows-same = rows-stay put (omega arith);
+  marks-same = marks-behind put (omega arith);
   names-kept = put-names put (omega arith);
 }
 
 -- the four totals of a death, one after the other
 module _ {t0 t1 t2 t3 t4 : List ℕ} (s : ℕ) (l u : Figure) (first : Put 1002 (total-down (total-in t0 1002) l) t0 t1)
-    (second : Put 1004 (total-up (total-in t1 1004) u) t1 t2) (third : Put (1008 + s * 4) (total-down (total-in t2 (1008 + s * 4)) l) t2 t3)
-    (fourth : Put (1008 + s * 4 + 2) (total-up (total-in t3 (1008 + s * 4 + 2)) u) t3 t4) where
+    (second : Put 1004 (total-up (total-in t1 1004) u) t1 t2) (third : Put (1010 + s * 4) (total-down (total-in t2 (1010 + s * 4)) l) t2 t3)
+    (fourth : Put (1010 + s * 4 + 2) (total-up (total-in t3 (1010 + s * 4 + 2)) u) t3 t4) where
   pub death-noted : DeathNoted s l u t0 t4
   death-noted = record {
     lower-is = total-below fourth 1002 (omega arith) ∙ total-below third 1002 (omega arith) ∙ total-below second 1002 (omega arith) ∙ first .total-is;
@@ -204,6 +220,8 @@ module _ {t0 t1 t2 t3 t4 : List ℕ} (s : ℕ) (l u : Figure) (first : Put 1002 
     rows-are =
         note-totals s third fourth l u refl (ap (λ t. total-up t u) (upper-before s third fourth))
         ∙ ap (λ r. row-with-death r s l u) (rows-stay second (omega arith) ∙ rows-stay first (omega arith));
+    marks-same =
+        marks-before fourth (omega arith) ∙ marks-before third (omega arith) ∙ marks-behind second (omega arith) ∙ marks-behind first (omega arith);
     names-kept = names-then (names-then (put-names first (omega arith)) (put-names second (omega arith))) (note-names s third fourth);
   }
 
@@ -277,7 +295,7 @@ module _ {table : List ℕ} (h : NoTotals table) where
 
   pub empty-rows : totals-in table ≡ zero-row-totals
   unfolding totals-in
-  empty-rows = λ i s. record { lower = empty-total (1008 + s * 4) (omega arith) i; upper = empty-total (1008 + s * 4 + 2) (omega arith) i }
+  empty-rows = λ i s. record { lower = empty-total (1010 + s * 4) (omega arith) i; upper = empty-total (1010 + s * 4 + 2) (omega arith) i }
 
   pub empty-gathered : TableGathered 0 table
   empty-gathered = record {

@@ -1,9 +1,10 @@
--- A figure in 64 bits: powers are raised above 0 and set back, and what was packed is unpacked again. Assumes nothing.
+-- A figure in 64 bits: powers are raised above 0 and set back, and what was packed, with its mark above it, is unpacked again. Assumes nothing.
 use mathlib.Core.Path.{_≡_, refl, _∙_, ap, ap₂}
+use mathlib.Core.Bool.{Bool, true, false}
 use Prim.Native.Nat.{ℕ, suc, _+_, _*_, _/_, _%_, _≤_, _<_}
 use native.Mathlib.Nat.{le-trans}
 use native.Mathlib.Omega.{arith}
-use lib.Dec.{T, lit≤, le→leb}
+use lib.Dec.{T, eqb, lit≤, le→leb}
 use lib.IntN.{ℤ, pos, negsuc, natAbs, _+ℤ_, _-ℤ_, +ℤ-negℤ-cancel}
 use lib.Signed.{mag, nonNeg, pos-natAbs}
 use mir.Syntax.{w32, w64}
@@ -13,7 +14,7 @@ use Rattle.figure.specs.declared.Figure.{Figure}
 use Rattle.figure.specs.Rounding.{figure, IsFigure, is-zero, is-whole}
 use Rattle.figure.specs.Operands.{Operand}
 use Rattle.figure.proofs.Stored.{stored, small, kept, mag-sum, mag-difference, sum-near, difference-nonneg, both-small, both-fit, both-kept}
-use Rattle.tables.specs.Internal.Tables.{unpacked}
+use Rattle.tables.specs.Internal.Tables.{unpacked, marked, mark-of}
 
 -- ---- a power raised above 0
 
@@ -59,8 +60,6 @@ module _ (k : ℕ) (h : k < 2097152) where
   pub lowered-is : stored (stored (pos k) -ℤ pos 1048576) ≡ pos k -ℤ pos 1048576
   lowered-is = both-kept _-ℤ_ mag-difference (pos k) (pos 1048576) low (lit≤ tt)
 
--- ---- a figure
-
 -- what is unpacked, its power stored once more
 pub unpacked-is : (x : ℕ) (p : ℤ) → p ≡ pos (x / 1073741824 % 2097152) -ℤ pos 1048576 → figure (x % 1073741824) (stored p) ≡ unpacked x
 unfolding unpacked
@@ -68,6 +67,50 @@ unpacked-is x p e = ap₂ figure refl (kept p (le-trans {m = 3145730} near (lit�
   where
     near : mag p ≤ 3145730
     near = rw e (omega (arith, mag-difference (pos (x / 1073741824 % 2097152)) (pos 1048576)))
+
+-- ---- the mark at bit 51, above a number below it
+
+module _ {x : ℕ} (low : x < 2251799813685248) where
+  marked-fits : (k : Bool) → Fits w64 (x + mark-of k)
+  marked-fits true = omega arith
+  marked-fits false = omega arith
+
+  mark-read : (k : Bool) → marked (x + mark-of k) ≡ k
+  unfolding marked
+  mark-read true = let one : (x + 2251799813685248) / 2251799813685248 ≡ 1 = omega arith in ap (λ (q : ℕ). eqb q 1) one
+  mark-read false = let none : (x + 0) / 2251799813685248 ≡ 0 = omega arith in ap (λ (q : ℕ). eqb q 1) none
+
+-- what lies below it is as it was
+
+low-kept : (x : ℕ) (k : Bool) → (x + mark-of k) % 1073741824 ≡ x % 1073741824
+low-kept x true = omega arith
+low-kept x false = omega arith
+
+high-kept : (x : ℕ) (k : Bool) → (x + mark-of k) / 1073741824 % 2097152 ≡ x / 1073741824 % 2097152
+high-kept x true = omega arith
+high-kept x false = omega arith
+
+unpacked-kept : (x : ℕ) (k : Bool) → unpacked (x + mark-of k) ≡ unpacked x
+unfolding unpacked
+unpacked-kept x k = rw (low-kept x k, high-kept x k)
+
+-- ---- a number of grains
+
+module _ {n : ℕ} (few : n ≤ 1000000) where
+  few-below : n < 2251799813685248
+  few-below = le-trans {m = 1000001} (omega arith) (lit≤ tt)
+
+  module _ (k : Bool) {b : ℕ} (mark : b ≡ mark-of k) where
+    pub count-fits : Fits w64 (n + b)
+    count-fits = rw mark (marked-fits few-below k)
+
+    pub count-is : ((n + b) % 1073741824 ≡ n) × (marked (n + b) ≡ k)
+    count-is = rw mark (low-kept n k ∙ small-self, mark-read few-below k)
+      where
+        small-self : n % 1073741824 ≡ n
+        small-self = omega arith
+
+-- ---- a figure
 
 module _ (f : Figure) (h : Operand 9 f) (r : ℕ) (raised : pos r ≡ stored (f .power) +ℤ pos 1048576) where
   e : pos r ≡ f .power +ℤ pos 1048576
@@ -86,12 +129,22 @@ module _ (f : Figure) (h : Operand 9 f) (r : ℕ) (raised : pos r ≡ stored (f 
   pub packed-fits : Fits w64 (f .digits + r * 1073741824)
   packed-fits = omega (arith, raised-below (f .power) (h .near) r e, digits-below)
 
-  pub packed-is : unpacked (f .digits + r * 1073741824) ≡ f
+  packed-below : f .digits + r * 1073741824 < 2251799813685248
+  packed-below = omega (arith, raised-below (f .power) (h .near) r e, digits-below)
+
+  figure-is : unpacked (f .digits + r * 1073741824) ≡ f
   unfolding unpacked
-  packed-is = ap₂ figure (omega (arith, digits-below)) (ap set-back back ∙ ap (λ (z : ℤ). z -ℤ pos 1048576) e ∙ +ℤ-negℤ-cancel (f .power) (pos 1048576))
+  figure-is = ap₂ figure (omega (arith, digits-below)) (ap set-back back ∙ ap (λ (z : ℤ). z -ℤ pos 1048576) e ∙ +ℤ-negℤ-cancel (f .power) (pos 1048576))
     where
       set-back : ℕ → ℤ
       set-back k = pos k -ℤ pos 1048576
 
       back : (f .digits + r * 1073741824) / 1073741824 % 2097152 ≡ r
       back = omega (arith, raised-below (f .power) (h .near) r e, digits-below)
+
+  module _ (k : Bool) {b : ℕ} (mark : b ≡ mark-of k) where
+    pub packed-marked-fits : Fits w64 (f .digits + r * 1073741824 + b)
+    packed-marked-fits = rw mark (marked-fits packed-below k)
+
+    pub packed-is : (unpacked (f .digits + r * 1073741824 + b) ≡ f) × (marked (f .digits + r * 1073741824 + b) ≡ k)
+    packed-is = rw mark (unpacked-kept (f .digits + r * 1073741824) k ∙ figure-is, mark-read packed-below k)

@@ -1,4 +1,5 @@
 pub mod Described
+pub mod Told
 pub mod Tables
 pub mod Sums
 pub mod Steps

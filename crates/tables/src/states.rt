@@ -6,11 +6,16 @@ ghost use Rattle.model.specs.Index.{transition-at};
 ghost use Rattle.tables.specs.Internal.Described.{Indexes, StandsFirst, described, net-of};
 ghost use Rattle.tables.specs.Internal.Tables.{StatesHold};
 ghost use Rattle.tables.specs.Internal.Sums.{SumsSized, WithSums, add-exit, sums};
+use crate::figures::added_down;
+use crate::figures::added_up;
+use crate::figures::by_moment;
+use crate::figures::exactly;
 use crate::figures::figure_at;
 use crate::figures::second_moment;
-use crate::pack::pack;
+use crate::pack::packed;
 use crate::table::Table;
 use figure::Figure;
+use figure::Rounded;
 use model::index::Index;
 use model::index::exit_count;
 use model::index::place_of;
@@ -18,12 +23,12 @@ use model::index::slot;
 use model::index::wide;
 use word::fields::is_fast;
 
-// E, h rounded up, h rounded down (h') and H of a state.
+// E, h rounded up, h rounded down (h') and H of a state, each with its mark.
 struct Sums {
-    pub rate: Figure,
-    pub up: Figure,
-    pub down: Figure,
-    pub moment: Figure,
+    pub rate: Rounded,
+    pub up: Rounded,
+    pub down: Rounded,
+    pub moment: Rounded,
 }
 
 // The sums with one exit more; part begins at the transition's word.
@@ -39,9 +44,9 @@ fn with_exit(s: Sums, part: &[u32]) -> Sums
         let m = figure_at(&part[1..]);
         let d = figure_at(&part[2..]);
         let q = figure_at(&part[3..]);
-        let more_up = up.plus_up(q.times_up(m));
-        let more_down = down.plus_down(q.times_down(m));
-        let more_moment = moment.plus_up(q.times_up(second_moment(m, d)));
+        let more_up = added_up(up, q.times_up_telling(m));
+        let more_down = added_down(down, q.times_down_telling(m));
+        let more_moment = added_up(moment, by_moment(q, second_moment(m, d)));
         return Sums {
             rate,
             up: more_up,
@@ -49,7 +54,7 @@ fn with_exit(s: Sums, part: &[u32]) -> Sums
             moment: more_moment,
         };
     }
-    let more_rate = rate.plus_up(figure_at(&part[1..]));
+    let more_rate = added_up(rate, exactly(figure_at(&part[1..])));
     Sums {
         rate: more_rate,
         up,
@@ -64,10 +69,10 @@ fn sums_of(words: &[u32], index: &Index, s: usize) -> Sums
     ensures { λ r. ⌜ r ≡ sums (net-of (now (words .entry))) s ⌝ }
 {
     let mut r = Sums {
-        rate: Figure::zero(),
-        up: Figure::zero(),
-        down: Figure::zero(),
-        moment: Figure::zero(),
+        rate: exactly(Figure::zero()),
+        up: exactly(Figure::zero()),
+        down: exactly(Figure::zero()),
+        moment: exactly(Figure::zero()),
     };
     let count = exit_count(index, s);
     let mut i = 0;
@@ -88,10 +93,10 @@ fn put_sums(table: &mut Table, s: usize, x: Sums)
     let up = x.up;
     let down = x.down;
     let moment = x.moment;
-    table[s] = pack(rate);
-    table[1001 + s] = pack(up);
-    table[2002 + s] = pack(down);
-    table[3003 + s] = pack(moment);
+    table[s] = packed(rate);
+    table[1001 + s] = packed(up);
+    table[2002 + s] = packed(down);
+    table[3003 + s] = packed(moment);
 }
 
 // E, h, h' and H of the states 1 to `states`, put into the table.

@@ -4,6 +4,7 @@ use Rattle.fraction.specs.Fraction.{whole, ratio, inverse, ten, at-most, _+ᶠ_
 use Rattle.figure.specs.Rounding.{value, digits-from, digit-count, dividend, divisor, floor, ceiling, lowest-power, up-from, down-from, up, down}
 use Rattle.figure.specs.Operations.{times-up, times-down, plus-up, plus-down, minus-down, divided-up, divided-down, times-ten, of-whole, of-quantity}
 use Rattle.figure.specs.Operations.{at-or-below, total-up, total-down, to-nine-up, to-nine-down, sum-to-nine-up}
+use Rattle.figure.specs.Losses.{keeps, times-keeps, plus-keeps, minus-keeps, divided-keeps, whole-keeps, total-keeps, to-nine-keeps, sum-to-nine-keeps}
 use Rattle.word.specs.Model.{only, any, exits-in, has-fast, probability-sum}
 use Rattle.word.specs.Answer.{then}
 use Rattle.model.specs.Reading.{unless, next-transition, next, at-words-end, read-from, lowest-uneven, first-of, read}
@@ -15,6 +16,11 @@ use Rattle.tree.specs.Lower.{exact, class2-loss, class3-loss, class2-fac
 use Rattle.tree.specs.Lower.{lower-step, lower-product, path-rate-sum, remaining-time, last-factor, lower-with, lower}
 use Rattle.tree.specs.Tree.{outcome, visits, tree, paths}
 use Rattle.tree.specs.Report.{upper-total, lower-total, report-of, report-on, walked, answer}
+use Rattle.tree.specs.Marks.{time-squared-kept, second-moment-kept, sum-kept, rate-sum-kept, mean-up-kept, mean-down-kept, moment-sum-kept}
+use Rattle.tree.specs.Marks.{class2-goal-kept, class3-goal-kept, grains-kept, all-grains-kept}
+use Rattle.tree.specs.Marks.{class2-loss-kept, class2-factor-kept, class3-loss-kept, class3-factor-kept}
+use Rattle.tree.specs.Marks.{lower-product-kept, path-rates-kept, last-factor-kept, lower-kept-with, lower-kept, upper-kept}
+use Rattle.tree.specs.Marks.{total-kept, marks-of, marks-on, marks-with}
 
 unfoldable pub computing : Type 0
 unfolding answer walked report-on report-of upper-total lower-total
@@ -31,4 +37,9 @@ unfolding answer walked report-on report-of upper-total lower-total
     exact class2-loss class3-loss class2-factor class3-factor
     lower-step lower-product path-rate-sum remaining-time last-factor lower-with lower
     outcome visits tree paths flatMap
+    keeps times-keeps plus-keeps minus-keeps divided-keeps whole-keeps total-keeps to-nine-keeps sum-to-nine-keeps
+    time-squared-kept second-moment-kept sum-kept rate-sum-kept mean-up-kept mean-down-kept moment-sum-kept
+    class2-goal-kept class3-goal-kept grains-kept all-grains-kept class2-loss-kept class2-factor-kept class3-loss-kept class3-factor-kept
+    lower-product-kept path-rates-kept last-factor-kept lower-kept-with lower-kept upper-kept
+    total-kept marks-of marks-on marks-with
 computing = Unit {0}

@@ -13,6 +13,7 @@ pub mod Carried
 pub mod Order
 pub mod Ended
 pub mod Tally
+pub mod TallyMarks
 pub mod Going
 pub mod Answer
 pub mod Divisors
@@ -25,3 +26,5 @@ pub mod RowAnswers
 pub mod RowTables
 pub mod Faithful
 pub mod RowsFaithful
+pub mod MarksPinned
+pub mod MarksFaithful

@@ -1,5 +1,5 @@
 -- Document 01, "The report program and the marked models": models A to L as one list, each with what the page says of it, and one claim: that the
--- definitions agree with all of it. Assumes nothing: these are definitions.
+-- definitions agree with all of it. Document 02, Item 2, adds model A's two digits. Assumes nothing: these are definitions.
 use Prim.Native.Nat.{ℕ, _+_, _*_, _^_}
 use mathlib.Core.Path.{_≡_}
 use mathlib.Core.Bool.{Bool, true, false, _&&_}
@@ -11,10 +11,12 @@ use Rattle.figure.specs.declared.Figure.{Figure}
 use Rattle.figure.specs.Rounding.{figure, none}
 use Rattle.figure.specs.Operations.{times-up, times-down}
 use Rattle.word.specs.Answer.{Answer}
+use Rattle.word.specs.Faults.{same-test}
 use Rattle.model.specs.Reading.{read}
 use Rattle.model.specs.Index.{transition}
 use Rattle.tree.specs.Grains.{grains}
 use Rattle.tree.specs.Report.{Report, answer}
+use Rattle.tree.specs.Marks.{Marks, marks-with}
 
 -- ---- words
 
@@ -50,6 +52,8 @@ pub data Statement : Type 0 where
   deaths-are cuts-are steps-are : ℕ → Statement
   refused-as : (number place : ℕ) → Statement
   is-reported : Statement
+  -- the two digits of the line `exact`
+  exact-are : (lower upper : Bool) → Statement
   -- the grains of a transition of the table, by its index from 0
   grains-are : (index n : ℕ) → Statement
   -- the whole report is that on these words
@@ -79,9 +83,10 @@ words-G c = model-words 1 4 0 0 (fast-words 1 2 1 4 1 4 333333 6 ++ fast-words 1
 
 unfoldable pub marked-models : List Marked
 marked-models =
-    -- A
+    -- A; document 02, Item 2: "Model A prints `exact 11`."
     model words-A million
-    (lower-is (printed 999500000 (negℤ (pos 4))) ∷ upper-is (printed 100000000 (negℤ (pos 3))) ∷ cut-is none ∷ deaths-are 1 ∷ cuts-are 0 ∷ steps-are 1 ∷ [])
+    (lower-is (printed 999500000 (negℤ (pos 4))) ∷ upper-is (printed 100000000 (negℤ (pos 3))) ∷ cut-is none ∷ deaths-are 1 ∷ cuts-are 0 ∷ steps-are 1
+    ∷ exact-are true true ∷ [])
     -- B: "Upper 1.50006000E-6, deaths 2, cuts 0, steps 4. Grains: 4,473 for 2 to 3, 737 for 2 to 4."
     ∷ model (words-B 0 0) million (upper-is (printed 150006000 (negℤ (pos 6))) ∷ deaths-are 2 ∷ cuts-are 0 ∷ steps-are 4 ∷ grains-are 1 4473 ∷ grains-are 2 737 ∷ [])
     -- C: "B with P 3E-3: upper and cut 3.00000000E-3, lower 0, deaths 0, cuts 1, steps 1. With P 2.9E-3, all as B."
@@ -120,6 +125,9 @@ same-report r s =
     && (same-figure (r .upper) (s .upper)
     && (same-figure (r .cut) (s .cut) && (eqb (r .deaths) (s .deaths) && (eqb (r .cuts) (s .cuts) && eqb (r .steps) (s .steps)))))
 
+abbrev pub same-marks : Marks → Marks → Bool
+same-marks a b = same-test (a .lower) (b .lower) && same-test (a .upper) (b .upper)
+
 -- a test of what was granted, false for a refusal
 abbrev if-granted : {A : Type 0} → Answer A → (A → Bool) → Bool
 if-granted (Answer.refused number place) test = false
@@ -138,6 +146,7 @@ holds ws budget a (cuts-are n) = if-granted a (λ r. eqb (r .cuts) n)
 holds ws budget a (steps-are n) = if-granted a (λ r. eqb (r .steps) n)
 holds ws budget a (refused-as n i) = is-refusal a n i
 holds ws budget a is-reported = if-granted a (λ r. true)
+holds ws budget a (exact-are l u) = if-granted a (λ r. same-marks (marks-with ws budget a) (record { lower = l; upper = u }))
 holds ws budget a (grains-are i n) = if-granted (read ws budget) (λ m. eqb (grains (m .net) [] (transition (m .net) i)) n)
 holds ws budget a (all-as us) = if-granted a (λ r. if-granted (answer us budget) (λ s. same-report r s))
 

@@ -96,7 +96,7 @@ returns-4 c =
     let a = accepts-of (k .before .before .read .ensures .answer) (k .r2 .given .1) in
     let h = w .walked .ensures in
     measured-report _ _ _ (reads-described a) (omega (arith, n .name-rows .ensures .count-is, x .if1 .left)) _ (h .ends) (n .name-rows .ensures) (h .names-kept) (h .counted)
-    (le-trans (e .if2 .left) (accepted-budget a)) (c .reported .result) (c .reported .ensures) (le-ltb _ _ (e .if2 .left))
+    (le-trans (e .if2 .left) (accepted-budget a)) (c .reported .result) (c .reported .ensures .0) (c .reported .ensures .1) (le-ltb _ _ (e .if2 .left))
 
 pub measured-spec : {M : Type 1} → statement M
 measured-spec =

@@ -80,13 +80,13 @@ abbrev R : RattleType
 R = T.the-row
 
 abbrev Tab : RattleType
-Tab = Array u64 5012
+Tab = Array u64 5014
 
 abbrev zeros : List ℕ
-zeros = replicate 5012 0
+zeros = replicate 5014 0
 
 abbrev zerosV : Val
-zerosV = arrayVal (replicate 5012 (vint w64 0))
+zerosV = arrayVal (replicate 5014 (vint w64 0))
 
 abbrev stayed : Stays (by-state.ended .signature .params) (by-state.ended .kept)
 stayed = (stay-none-slice (0 ∷ []) tt (plain (λ _. u32)) yes, (stay-none (λ _. u64) yes, (gave-slice (1 ∷ []) tt (plain (λ _. R)), tt)))
@@ -197,10 +197,10 @@ module _ {M : Type 1} (𝓤 : URA M) (H : Heap 𝓤) (A : Atoms 𝓤) (W : Given
         pass1 ! (init ! 16 refl (tt, (tt, (record { fits = room .0 }, tt)))) $ pass0 ! $
         -- the array of zeros
         owned ! u64 (Is u64) (uint-makes 𝓤 H A W w64) 0 (vint w64 0 ∷ []) (refl, lit< tt) $
-        use1 W (‵ (Tab .own zeros (zerosV ∷ []))) (array-repeat 𝓤 H A W u64 (uint-copy 𝓤 H A W w64) 5012 0 (vint w64 0)) $
+        use1 W (‵ (Tab .own zeros (zerosV ∷ []))) (array-repeat 𝓤 H A W u64 (uint-copy 𝓤 H A W w64) 5014 0 (vint w64 0)) $
         peeks ! Tab (Is Tab) (shows 𝓤 H A Tab) zeros (zerosV ∷ []) (λ made.
-        assigns ! (rep ! 5012 (lit ! tt)) (from ! (stop !))
-        (init ! 15 refl (array-lawful 𝓤 H A W u64 (uint-lawful 𝓤 H A W w64) 5012 .typed zeros _ made .0)) $
+        assigns ! (rep ! 5014 (lit ! tt)) (from ! (stop !))
+        (init ! 15 refl (array-lawful 𝓤 H A W u64 (uint-lawful 𝓤 H A W w64) 5014 .typed zeros _ made .0)) $
         assigns ! (of-opd ! (load ! (from ! (fld ! refl (stop !))) (look-in ! 17 (sub ! 1 refl (whole !))))) (from ! (stop !))
         (init ! 13 refl (tt, record { fits = room .0 })) $
         assigns ! (addr ! (from ! (stop !))) (from ! (stop !)) (init ! 9 refl (tt, tt)) $
@@ -266,7 +266,7 @@ module _ {M : Type 1} (𝓤 : URA M) (H : Heap 𝓤) (A : Atoms 𝓤) (W : Given
         peeks ! unit (Is unit) (shows 𝓤 H A unit) z (u ∷ []) (λ done-is.
         land ! (from ! (stop !)) (init ! 20 refl (nothing-lawful 𝓤 H A W .typed z _ done-is .0)) $ drop ! $
         lft-end ! tt $ move ! (0 ∷ 7 ∷ []) $ lent-back ! tt $
-        use1 W (some (λ (v : Val). ‵ (fat fullShare (tyArray (tyInt w64) 5012) l₄ 0 v) ⊛ ‵ (Tab .own (ts .1 .1 .1 .0) (v ∷ []))))
+        use1 W (some (λ (v : Val). ‵ (fat fullShare (tyArray (tyInt w64) 5014) l₄ 0 v) ⊛ ‵ (Tab .own (ts .1 .1 .1 .0) (v ∷ []))))
         (part-out 𝓤 H A W Tab refl fullShare (ts .1 .1 .1 .0) l₄ 0) $ pick ! (λ v. split ! $
         -- [_4; what it owns; true; the rows' token (3); the last rows (4); ..; the answer (8); true; the words' token (10); true; Own (12); _11 (13);
         -- ..; _6 (23); ..; _0 (34); …]

@@ -17,7 +17,7 @@ use Rattle.path.specs.declared.counts.Counts.{Counts}
 use Rattle.path.specs.Internal.Lent.{Lent, Filled, model-in, net-in, limits-in}
 use Rattle.path.specs.Internal.Paths.{path-of, Known}
 use Rattle.path.specs.Internal.Counts.{Few}
-use Rattle.rows.specs.Internal.Table.{lower-total, death-total, cut-total, totals-in, NamesKept, TableGathered}
+use Rattle.rows.specs.Internal.Table.{lower-total, death-total, cut-total, marks-in, totals-in, NamesKept, TableGathered}
 
 -- What a walk is asked for: to go on from the tip, with so many steps left, the entry counts and the path up to the tip, the counts so far, and the
 -- table with the totals.
@@ -61,9 +61,9 @@ totals-of c rows =
       steps = c .steps;
     }
 
--- all that a walk keeps: these, and in the table those of rows
+-- all that a walk keeps: these, and in the table those of rows and the marks
 abbrev pub kept-of : Counts → List ℕ → Kept
-kept-of c rows = record { totals = totals-of c rows; rows = totals-in rows }
+kept-of c rows = record { totals = totals-of c rows; rows = totals-in rows; marks = marks-in rows }
 
 -- all of it is in range: as many terms as steps were taken
 pub record KeptCounted (c : Counts) (rows : List ℕ) : Type 0 where

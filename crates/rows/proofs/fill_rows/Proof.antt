@@ -81,7 +81,7 @@ abbrev R : RattleType
 R = T.the-row
 
 abbrev Tab : RattleType
-Tab = Array u64 5012
+Tab = Array u64 5014
 
 abbrev word : Ty
 word = tyInt w64
@@ -93,7 +93,7 @@ abbrev shared : Ty
 shared = tyRef (named 1) imm (pointee (Tab .written))
 
 abbrev stayed : Stays (fill-rows.ended .signature .params) (fill-rows.ended .kept)
-stayed = (stay-slice (0 ∷ []) tt (plain (λ _. R)), (stay-none-ref (1 ∷ []) tt (arrayOf (plain (λ _. u64)) 5012) yes, tt))
+stayed = (stay-slice (0 ∷ []) tt (plain (λ _. R)), (stay-none-ref (1 ∷ []) tt (arrayOf (plain (λ _. u64)) 5014) yes, tt))
 
 module _ {M : Type 1} (𝓤 : URA M) (H : Heap 𝓤) (A : Atoms 𝓤) (at-mem : Memory → SProp 𝓤) (run : Routine → Fun 𝓤) where
   -- the contracts that the proof cites
@@ -335,7 +335,7 @@ fill-rows-meets : {M : Type 1} (𝓤 : URA M) (H : Heap 𝓤) (A : Atoms 𝓤) �
     → Meets 𝓤 H A fill-rows.signature (WpFn 𝓤 H (𝓣 .C) (𝓣 .Λ) code.function) (fill-rows.spec 𝓤 H A at-mem run)
 fill-rows-meets 𝓤 H A W at-mem run 𝓣 known-count known =
     walk-meets 𝓤 H A fill-rows.ended stayed W
-    (goes-slice 𝓤 H A W 2 0 tt (plain (λ _. R)), (goes-none-ref 𝓤 H A W 2 (1 ∷ []) tt (arrayOf (plain (λ _. u64)) 5012) yes, tt))
+    (goes-slice 𝓤 H A W 2 0 tt (plain (λ _. R)), (goes-none-ref 𝓤 H A W 2 (1 ∷ []) tt (arrayOf (plain (λ _. u64)) 5014) yes, tt))
     (fill-rows.clauses 𝓤 H A at-mem run) (WpFn 𝓤 H (𝓣 .C) (𝓣 .Λ) code.function) (WpFn-mono 𝓤 H (W .laws) 𝓣 code.function) (fill-rows-walks 𝓤 H A W at-mem run 𝓣 (fmOf 𝓤 H (W .laws) 𝓣) known-count known)
 
 pub fill-rows-spec : {M : Type 1} → stated.statement M

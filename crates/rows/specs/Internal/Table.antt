@@ -2,7 +2,7 @@
 -- definitions.
 use Prim.Native.Nat.{ℕ, _+_, _*_, _%_, _≤_, _<_}
 use mathlib.Core.Path.{_≡_}
-use mathlib.Core.Bool.{true, false}
+use mathlib.Core.Bool.{Bool, true, false, _&&_}
 use mathlib.Core.List.{List}
 use lib.ListN.{length, getD}
 use lib.Dec.{eqb}
@@ -11,6 +11,7 @@ use Rattle.figure.specs.declared.Figure.{Figure}
 use Rattle.figure.specs.Rounding.{figure, none}
 use Rattle.figure.specs.Internal.Gathered.{Gathered}
 use Rattle.figure.specs.Operations.{total-up, total-down}
+use Rattle.tree.specs.Marks.{Marks}
 use Rattle.tree.specs.Internal.Tally.{RowTotals, row-with-death}
 
 -- ---- the sections
@@ -42,9 +43,17 @@ death-total table = total-in table 1004
 abbrev pub cut-total : List ℕ → Figure
 cut-total table = total-in table 1006
 
--- those of the state s
+-- whether nothing was lost so far: a mark is 1 once something was
+abbrev pub kept-in : List ℕ → ℕ → Bool
+kept-in table at = eqb (getD table at 0) 0
+
+-- the report's marks, of its lower and of its upper
+unfoldable pub marks-in : List ℕ → Marks
+marks-in table = record { lower = kept-in table 1008; upper = kept-in table 1009 }
+
+-- the totals of the state s
 unfoldable pub totals-in : List ℕ → ℕ → RowTotals
-totals-in table s = record { lower = total-in table (1008 + s * 4); upper = total-in table (1008 + s * 4 + 2) }
+totals-in table s = record { lower = total-in table (1010 + s * 4); upper = total-in table (1010 + s * 4 + 2) }
 
 -- ---- what is written
 
@@ -53,6 +62,17 @@ pub record Put (at : ℕ) (f : Figure) (before after : List ℕ) : Type 0 where
   pub total-is : total-in after at ≡ f
   pub size : length after ≡ length before
   pub elsewhere : (i : ℕ) → (i ≡ at → ⊥) → (i ≡ at + 1 → ⊥) → getD after i 0 ≡ getD before i 0
+
+-- the place of a mark
+pub record MarkPlace (at : ℕ) : Type 0 where
+  pub first : 1008 ≤ at
+  pub last : at ≤ 1009
+
+-- in the mark at a place it was noted whether something more lost nothing, and nothing else was written
+pub record MarkNoted (at : ℕ) (k : Bool) (before after : List ℕ) : Type 0 where
+  pub mark-is : kept-in after at ≡ (kept-in before at && k)
+  pub size : length after ≡ length before
+  pub elsewhere : (i : ℕ) → (i ≡ at → ⊥) → getD after i 0 ≡ getD before i 0
 
 -- the number of rows and their states are as they were
 pub record NamesKept (before after : List ℕ) : Type 0 where
@@ -65,6 +85,7 @@ pub record DeathNoted (s : ℕ) (l u : Figure) (before after : List ℕ) : Type 
   pub death-is : death-total after ≡ total-up (death-total before) u
   pub cut-same : cut-total after ≡ cut-total before
   pub rows-are : totals-in after ≡ row-with-death (totals-in before) s l u
+  pub marks-same : marks-in after ≡ marks-in before
   pub names-kept : NamesKept before after
 
 -- one more cut path, of the upper u
@@ -73,11 +94,12 @@ pub record CutNoted (u : Figure) (before after : List ℕ) : Type 0 where
   pub death-same : death-total after ≡ death-total before
   pub cut-is : cut-total after ≡ total-up (cut-total before) u
   pub rows-same : totals-in after ≡ totals-in before
+  pub marks-same : marks-in after ≡ marks-in before
   pub names-kept : NamesKept before after
 
--- no total was written yet
+-- no total and no mark was written yet
 pub record NoTotals (table : List ℕ) : Type 0 where
-  pub size : length table ≡ 5012
+  pub size : length table ≡ 5014
   pub zeros : (i : ℕ) → 1002 ≤ i → getD table i 0 ≡ 0
 
 -- ---- ranges
@@ -92,7 +114,7 @@ pub record RowGathered (n : ℕ) (t : RowTotals) : Type 0 where
 
 -- all totals of a table
 pub record TableGathered (n : ℕ) (table : List ℕ) : Type 0 where
-  pub size : length table ≡ 5012
+  pub size : length table ≡ 5014
   pub lower : TotalOf n (lower-total table)
   pub death : TotalOf n (death-total table)
   pub cut : TotalOf n (cut-total table)

@@ -1,13 +1,14 @@
--- The totals one visit at a time, as a walk keeps them, of the report and of each state's row. Contracts of the walk cite this page; that the totals
--- over the tree give the report and the rows is `tally-report` and `tally-finish-row` (crates/tree/proofs/Tally.antt). Assumes nothing: these are
--- definitions.
+-- The totals one visit at a time, as a walk keeps them, of the report and of each state's row, and the report's marks. Contracts of the walk cite this
+-- page; that over the tree they give the report, the rows and the marks is `tally-report` and `tally-finish-row` (crates/tree/proofs/Tally.antt) and
+-- `tally-marks` (crates/tree/proofs/TallyMarks.antt). Assumes nothing: these are definitions.
 use Prim.Native.Nat.{ℕ, _+_}
-use mathlib.Core.Bool.{true, false}
+use mathlib.Core.Bool.{true, false, _&&_}
 use mathlib.Core.List.{List, [], _∷_}
 use lib.Dec.{eqb}
 use Rattle.figure.specs.declared.Figure.{Figure}
 use Rattle.figure.specs.Rounding.{none}
 use Rattle.figure.specs.Operations.{total-up, total-down, to-nine-up, to-nine-down, sum-to-nine-up}
+use Rattle.figure.specs.Losses.{total-keeps, to-nine-keeps, sum-to-nine-keeps}
 use Rattle.word.specs.Model.{Net}
 use Rattle.tree.specs.declared.Row.{Row}
 use Rattle.tree.specs.Paths.{last-state}
@@ -15,6 +16,7 @@ use Rattle.tree.specs.Upper.{upper}
 use Rattle.tree.specs.Lower.{lower}
 use Rattle.tree.specs.Tree.{Outcome, death, entered-too-often, step-limit, low-level, continued, Visit}
 use Rattle.tree.specs.Report.{Report}
+use Rattle.tree.specs.Marks.{Marks, path-marks}
 
 pub record Totals : Type 0 where
   pub lower : Figure
@@ -77,25 +79,54 @@ row-totals-with a l u = record { lower = total-down (a .lower) l; upper = total-
 unfoldable pub row-with-death : (ℕ → RowTotals) → (last : ℕ) → Figure → Figure → ℕ → RowTotals
 row-with-death rows last l u s = elim (eqb last s) [ true ↦ row-totals-with (rows s) l u | false ↦ rows s ]
 
+-- ---- the marks
+
+-- before the first visit nothing was lost
+abbrev pub all-kept : Marks
+all-kept = record { lower = true; upper = true }
+
+-- one more death path, of the lower l, the upper u and the marks k: beside what the path itself rests on, its two additions to the totals t
+unfoldable pub marks-with-death : Totals → Marks → Figure → Figure → Marks → Marks
+marks-with-death t a l u k = record {
+  lower = a .lower && (k .lower && total-keeps (t .lower) l);
+  upper = a .upper && (k .upper && total-keeps (t .death-upper) u);
+}
+
+-- one more cut path: the lower does not rest on it
+unfoldable pub marks-with-cut : Totals → Marks → Figure → Marks → Marks
+marks-with-cut t a u k = record { lower = a .lower; upper = a .upper && (k .upper && total-keeps (t .cut-upper) u) }
+
 -- ---- all that a walk keeps
 
 pub record Kept : Type 0 where
   pub totals : Totals
   pub rows : ℕ → RowTotals
+  pub marks : Marks
 
 abbrev pub nothing-kept : Kept
-nothing-kept = record { totals = zero-totals; rows = zero-row-totals }
+nothing-kept = record { totals = zero-totals; rows = zero-row-totals; marks = all-kept }
 
--- one more path, by what becomes of it and the state that it ends in
-unfoldable pub noted : Kept → Outcome → (last : ℕ) → (l u : Figure) → Kept
-noted a death last l u = record { totals = with-death (a .totals) l u; rows = row-with-death (a .rows) last l u }
-noted a entered-too-often last l u = record { totals = with-cut (a .totals) u; rows = a .rows }
-noted a step-limit last l u = record { totals = with-cut (a .totals) u; rows = a .rows }
-noted a low-level last l u = record { totals = with-cut (a .totals) u; rows = a .rows }
-noted a continued last l u = record { totals = with-step (a .totals); rows = a .rows }
+abbrev pub death-noted : Kept → (last : ℕ) → (l u : Figure) → Marks → Kept
+death-noted a last l u k = record {
+  totals = with-death (a .totals) l u;
+  rows = row-with-death (a .rows) last l u;
+  marks = marks-with-death (a .totals) (a .marks) l u k;
+}
+
+abbrev pub cut-noted : Kept → (u : Figure) → Marks → Kept
+cut-noted a u k = record { totals = with-cut (a .totals) u; rows = a .rows; marks = marks-with-cut (a .totals) (a .marks) u k }
+
+-- one more path, by what becomes of it, the state that it ends in and its marks
+unfoldable pub noted : Kept → Outcome → (last : ℕ) → (l u : Figure) → Marks → Kept
+noted a death last l u k = death-noted a last l u k
+noted a entered-too-often last l u k = cut-noted a u k
+noted a step-limit last l u k = cut-noted a u k
+noted a low-level last l u k = cut-noted a u k
+noted a continued last l u k = record { totals = with-step (a .totals); rows = a .rows; marks = a .marks }
 
 abbrev pub with-visit : Net → Kept → Visit → Kept
-with-visit net a v = noted a (v .outcome) (last-state net (v .path)) (lower net (v .path)) (upper net (v .path))
+with-visit net a v =
+    noted a (v .outcome) (last-state net (v .path)) (lower net (v .path)) (upper net (v .path)) (path-marks net (v .path))
 
 -- what is kept over visits, in their order
 unfoldable pub tally : Net → Kept → List Visit → Kept
@@ -118,3 +149,10 @@ finish a = record {
 -- a row's, "rounded as the report's are": of no cut path
 unfoldable pub finish-row : ℕ → RowTotals → Row
 finish-row s a = record { state = s; lower = to-nine-down (a .lower); upper = sum-to-nine-up (a .upper) none }
+
+-- the report's marks: with the last rounding of its figures
+unfoldable pub finish-marks : Kept → Marks
+finish-marks a = record {
+  lower = a .marks .lower && to-nine-keeps (a .totals .lower);
+  upper = a .marks .upper && sum-to-nine-keeps (a .totals .death-upper) (a .totals .cut-upper);
+}

@@ -1,8 +1,8 @@
 -- `walk` meets its contract. The steps that the path may still take fall at each call; the loop keeps, at each exit, that the totals so far with
 -- the visits still to make come to the totals of all. Assumes nothing.
 use Prim.Native.Nat.{ℕ, _<_, _≤_, _-_}
-use mathlib.Core.Path.{_≡_, sym, ap, _∙_}
-use mathlib.Core.Bool.{true}
+use mathlib.Core.Path.{_≡_, refl, sym, ap, _∙_}
+use mathlib.Core.Bool.{true, false}
 use mathlib.Core.Logic.{⊎-elim}
 use native.Mathlib.Omega.{arith}
 use lib.ListN.{length}
@@ -10,13 +10,18 @@ use borrow.Author.Needs.{needs}
 use Rattle.model.specs.Index.{exit-count}
 use Rattle.tree.specs.Tree.{is-continued}
 use Rattle.tree.proofs.Outcomes.{is-death-true}
-use Rattle.path.specs.Internal.Lent.{Lent, lent}
+use Rattle.figure.specs.Rounding.{none}
+use Rattle.tree.proofs.Ranges.{none-sized}
+use Rattle.path.specs.Internal.Lent.{Lent, lent, net-in}
 use Rattle.path.specs.Internal.Outcomes.{outcome-of}
 use Rattle.bounds.specs.Internal.Walk.{Asked, asked}
 use Rattle.path.proofs.DeathStems.{last-lower}
 use Rattle.rows.proofs.RowTotals.{names-then}
+use Rattle.rows.proofs.RowMarks.{upper-place}
+use Rattle.bounds.specs.Internal.Marks.{asked-marks, Marked}
+use Rattle.bounds.proofs.WalkMarks.{closed-marked, upper-lost, marked-gathered, marked-at}
 use Rattle.bounds.proofs.WalkLoop.{Held, held, AtExit, exit-same, step-counted, state-small, room, ones-few, exit-ready, loop-start, steps-few, loop-end, loop-over, ends-steps}
-use Rattle.bounds.proofs.WalkTurns.{Turn, Visited, judged-there, there-small, judge-figures, last-step, count-figures, note-figures, death-noted, step-noted, cut-noted}
+use Rattle.bounds.proofs.WalkTurns.{Turn, Visited, judged-there, path-there, there-small, judge-figures, last-step, count-figures, note-figures, death-noted, step-noted, cut-noted}
 use Rattle.bounds.proofs.WalkTurns.{visit-ended, before-fits, ready-there, visit-over, visit-back}
 use borrow.Fn.Kinds.{In}
 use borrow.Fn.PlainCycle.{Measures, is, falls, and}
@@ -34,7 +39,11 @@ use Rattle.path.proofs.counts.with_death.Reads as with-death-reads
 use Rattle.path.proofs.counts.with_step.Reads as with-step-reads
 use Rattle.rows.proofs.table.note_cut.Reads as note-cut-reads
 use Rattle.rows.proofs.table.note_death.Reads as note-death-reads
+use Rattle.rows.proofs.table.is_kept.Reads as is-kept-reads
+use Rattle.rows.proofs.table.is_open.Reads as is-open-reads
+use Rattle.bounds.proofs.marks.mark_ended.Reads as mark-ended-reads
 use Rattle.figure.proofs.Figure.of_whole.Reads as of-whole-reads
+use Rattle.figure.proofs.Figure.zero.Reads as zero-reads
 use Rattle.model.proofs.index.exit_count.Reads as exit-count-reads
 use Rattle.bounds.proofs.walk.+walk.{statement}
 use Rattle.bounds.proofs.walk.+walk.Tie.{close}
@@ -66,6 +75,10 @@ claims t = (
   is-death-reads.Learnt,
   death-reads.Asked,
   death-reads.Learnt,
+  is-open-reads.Asked,
+  is-open-reads.Learnt,
+  mark-ended-reads.Asked,
+  mark-ended-reads.Learnt,
   note-death-reads.Asked,
   note-death-reads.Learnt,
   with-death-reads.Asked,
@@ -74,6 +87,10 @@ claims t = (
   is-continued-reads.Learnt,
   walk-below t,
   walk.Post,
+  is-kept-reads.Asked,
+  is-kept-reads.Learnt,
+  zero-reads.Asked,
+  zero-reads.Learnt,
   note-cut-reads.Asked,
   note-cut-reads.Learnt,
   with-cut-reads.Asked,
@@ -161,7 +178,7 @@ VisitedAt t c =
     ((tested t c) .before .judge .result) (c .with-step2 .result) (k .loop .cache) (k .loop .rows)
 
 on : (t : ℕ) (c : StepNoted t) → is-continued (outcome-of ((tested t c) .before .judge .result)) ≡ true
-on t c = sym (c .before .before .is-continued .ensures) ∙ c .before .if3 .taken
+on t c = sym (c .before .before .is-continued .ensures) ∙ c .before .if4 .taken
 
 -- what the path through the exit is judged to be, by the number of exits as it was read
 judged-at : (t : ℕ) (c : Tested t) → let e = read-exit t c in let k = exit-loop t e in
@@ -172,6 +189,36 @@ visited : (t : ℕ) (c : StepNoted t) → VisitedAt t c
 visited t c =
     let j = (tested t c) .before .judge in
     step-noted (turn t (read-exit t (tested t c))) (j .result) (judged-at t (tested t c)) (on t c) (c .with-step2 .ensures)
+
+-- the marks after a death was noted in them, or need not be
+
+abbrev DeathMarked : ℕ → Type 0
+DeathMarked t = walk-lts.Joined3 (claims t) (walk-at t) walk.Post walk-Inv-loop walk-μ-loop
+
+abbrev died : (t : ℕ) (c : DeathMarked t) → walk-lts.After-death (claims t) (walk-at t) walk.Post walk-Inv-loop walk-μ-loop
+died t c = c .before .before .before .before .before
+
+death-mark : (t : ℕ) (c : DeathMarked t) → let d = died t c in let e = read-exit t (d .before .before) in let k = exit-loop t e in
+    let l = lent-at t (loop-begin t k) in let a = asked-at t (loop-begin t k) in
+    Marked (asked-marks true (net-in l) (path-there l a (held-at t k) (e .exit-at .result)) (d .death .result .lower) (e .exit-at .result .tip .upper) (k .loop .rows))
+    (k .loop .rows) (c .if3 .rows)
+death-mark t c = ⊎-elim (λ d. marked-at (d .3) (d .2 .ensures))
+    (λ d. marked-at (d .1) (closed-marked _ _ (sym (c .before .is-open .ensures) ∙ d .0 .left))) (c .if3 .came)
+
+-- and after a cut
+
+abbrev CutMarked : ℕ → Type 0
+CutMarked t = walk-lts.Joined6 (claims t) (walk-at t) walk.Post walk-Inv-loop walk-μ-loop
+
+abbrev cut-tested : (t : ℕ) (c : CutMarked t) → Tested t
+cut-tested t c = c .before .before .before .before .before .before
+
+cut-mark : (t : ℕ) (c : CutMarked t) → let e = read-exit t (cut-tested t c) in let k = exit-loop t e in
+    let l = lent-at t (loop-begin t k) in let a = asked-at t (loop-begin t k) in
+    Marked (asked-marks false (net-in l) (path-there l a (held-at t k) (e .exit-at .result)) none (e .exit-at .result .tip .upper) (k .loop .rows))
+    (k .loop .rows) (c .if6 .rows)
+cut-mark t c = ⊎-elim (λ d. marked-at (d .4) (d .3 .ensures))
+    (λ d. marked-at (d .1) (upper-lost _ _ (sym (c .before .is-kept .ensures) ∙ d .0 .left) refl)) (c .if6 .came)
 
 walk-add-of-whole : (t : ℕ) → walk-lts.Need-add-of-whole (claims t) (walk-at t) walk.Post walk-Inv-loop walk-μ-loop
 walk-add-of-whole t c = omega (arith, ones-few (c .before .before .pre .1))
@@ -238,16 +285,26 @@ walk-death-requires t c κs =
     let o = (exit-loop t e) .before .before .before .before .before in
     ((last-step w, o .of-whole .ensures), w .kept .cached)
 
-walk-with-death-requires : (t : ℕ) → walk-lts.Need-with-death-requires (claims t) (walk-at t) walk.Post walk-Inv-loop walk-μ-loop
-walk-with-death-requires t c κs =
-    count-figures (turn t (read-exit t (c .before .before .before .before .before .before)))
+walk-is-open-requires : (t : ℕ) → walk-lts.Need-is-open-requires (claims t) (walk-at t) walk.Post walk-Inv-loop walk-μ-loop
+walk-is-open-requires t c κs = tt
+
+walk-mark-ended-requires : (t : ℕ) → walk-lts.Need-mark-ended-requires (claims t) (walk-at t) walk.Post walk-Inv-loop walk-μ-loop
+walk-mark-ended-requires t c κs =
+    let d = c .before .before .before .before .before .before in
+    let w = turn t (read-exit t (d .before .before)) in
+    let h = note-figures w in
+    (last-step w, (h .0, last-lower (last-step w) (d .death .ensures .0), h .1))
 
 walk-note-death-requires : (t : ℕ) → walk-lts.Need-note-death-requires (claims t) (walk-at t) walk.Post walk-Inv-loop walk-μ-loop
 walk-note-death-requires t c κs =
-    let d = c .before .before .before in
+    let j = c .before in
+    let d = died t j in
     let w = turn t (read-exit t (d .before .before)) in
     let h = note-figures w in
-    (there-small w, h .0, last-lower (last-step w) (d .death .ensures .0), h .1)
+    (there-small w, marked-gathered (death-mark t j) (h .0), last-lower (last-step w) (d .death .ensures .0), h .1)
+
+walk-with-death-requires : (t : ℕ) → walk-lts.Need-with-death-requires (claims t) (walk-at t) walk.Post walk-Inv-loop walk-μ-loop
+walk-with-death-requires t c κs = count-figures (turn t (read-exit t ((died t (c .before .before)) .before .before)))
 
 walk-is-continued-requires : (t : ℕ) → walk-lts.Need-is-continued-requires (claims t) (walk-at t) walk.Post walk-Inv-loop walk-μ-loop
 walk-is-continued-requires t c κs = tt
@@ -287,7 +344,7 @@ walk-returns-2 t c =
     let w = c .before .before .before in
     let n = w .before .before in
     let v = visited t n in
-    let ends = visit-over v (on t n) _ (w .walk .ensures .ends) (c .if4 .taken) in
+    let ends = visit-over v (on t n) _ (w .walk .ensures .ends) (c .if5 .taken) in
     record {
       ends = ends;
       counted = w .walk .ensures .counted;
@@ -295,11 +352,27 @@ walk-returns-2 t c =
       steps-are = ends-steps (v .turn .ready) _ ends;
     }
 
-walk-with-cut-requires : (t : ℕ) → walk-lts.Need-with-cut-requires (claims t) (walk-at t) walk.Post walk-Inv-loop walk-μ-loop
-walk-with-cut-requires t c κs = count-figures (turn t (read-exit t (c .before .before .before .before .before)))
+walk-is-kept-requires : (t : ℕ) → walk-lts.Need-is-kept-requires (claims t) (walk-at t) walk.Post walk-Inv-loop walk-μ-loop
+walk-is-kept-requires t c κs = upper-place
+
+walk-zero-requires : (t : ℕ) → walk-lts.Need-zero-requires (claims t) (walk-at t) walk.Post walk-Inv-loop walk-μ-loop
+walk-zero-requires t c κs = tt
+
+walk-mark-ended-requires-2 : (t : ℕ) → walk-lts.Need-mark-ended-requires-2 (claims t) (walk-at t) walk.Post walk-Inv-loop walk-μ-loop
+walk-mark-ended-requires-2 t c κs =
+    let z = c .before in
+    let w = turn t (read-exit t (z .before .before .before .before .before .before .before)) in
+    let h = note-figures w in
+    (last-step w, (h .0, rw (z .zero .ensures) (none-sized 35000), h .1))
 
 walk-note-cut-requires : (t : ℕ) → walk-lts.Need-note-cut-requires (claims t) (walk-at t) walk.Post walk-Inv-loop walk-μ-loop
-walk-note-cut-requires t c κs = note-figures (turn t (read-exit t (c .before .before .before .before)))
+walk-note-cut-requires t c κs =
+    let j = c .before in
+    let h = note-figures (turn t (read-exit t (cut-tested t j))) in
+    (marked-gathered (cut-mark t j) (h .0), h .1)
+
+walk-with-cut-requires : (t : ℕ) → walk-lts.Need-with-cut-requires (claims t) (walk-at t) walk.Post walk-Inv-loop walk-μ-loop
+walk-with-cut-requires t c κs = count-figures (turn t (read-exit t (cut-tested t (c .before .before))))
 
 walk-add-i : (t : ℕ) → walk-lts.Need-add-i (claims t) (walk-at t) walk.Post walk-Inv-loop walk-μ-loop
 walk-add-i t c =
@@ -318,21 +391,38 @@ walk-loop-again t c =
     let dead = sym (c .before .is-death .ensures) in (
       omega (arith, e .before .before .before .before .loop-test .taken),
       ⊎-elim
-          (λ d. let died = dead ∙ d .0 .taken in
-          exit-same (d .8) (d .9) (d .10) (d .11) (d .7)
-          (visit-ended (death-noted w o is died (last-lower (last-step w) (d .1 .ensures .0)) (d .1 .ensures .0) (d .6 .ensures) (d .5 .ensures)
-          (d .1 .ensures .1))
-          (ap is-continued (is-death-true (outcome-of o) died))))
+          (λ d. let g : DeathMarked t = record {
+            before = record {
+              before = record {
+                before = record { before = record { before = record { before = record { before = c .before; if2 = d .0 }; death = d .1 }; lower = d .2 }; cache = d .3 };
+                is-open-arg = d .4;
+              };
+              is-open = d .5;
+            };
+            if3 = d .6;
+          } in
+          let is-dead = dead ∙ d .0 .taken in
+          exit-same (d .11) (d .12) (d .13) (d .14) (d .10)
+          (visit-ended (death-noted w o is is-dead (last-lower (last-step w) (d .1 .ensures .0)) (d .1 .ensures .0) (d .9 .ensures) (death-mark t g)
+          (d .8 .ensures) (d .1 .ensures .1))
+          (ap is-continued (is-death-true (outcome-of o) is-dead))))
           (⊎-elim
           (λ d. let g : StepNoted t = record {
-            before = record { before = record { before = record { before = c .before; if2 = d .0 }; is-continued = d .1 }; if3 = d .2 };
+            before = record { before = record { before = record { before = c .before; if2 = d .0 }; is-continued = d .1 }; if4 = d .2 };
             with-step2 = d .3;
           } in
           exit-same (d .10) (d .11) (d .12) (d .13) (d .9)
           (visit-back (visited t g) (on t g) _ (d .5 .ensures .ends) (d .5 .ensures .counted) (d .5 .ensures .names-kept) (d .8 .left)))
-          (λ d. let ended = sym (d .1 .ensures) ∙ d .2 .left in
-          exit-same (d .7) (d .8) (d .9) (d .10) (d .6)
-          (visit-ended (cut-noted w o is (dead ∙ d .0 .left) ended (d .5 .ensures) (d .4 .ensures)) ended)))
+          (λ d. let g : CutMarked t = record {
+            before = record {
+              before = record { before = record { before = record { before = record { before = c .before; if2 = d .0 }; is-continued = d .1 }; if4 = d .2 }; is-kept-arg = d .3 };
+              is-kept = d .4;
+            };
+            if6 = d .5;
+          } in
+          let ended = sym (d .1 .ensures) ∙ d .2 .left in
+          exit-same (d .10) (d .11) (d .12) (d .13) (d .9)
+          (visit-ended (cut-noted w o is (dead ∙ d .0 .left) ended (d .8 .ensures) none (cut-mark t g) (d .7 .ensures)) ended)))
           (c .if2 .came),
     )
 
@@ -368,6 +458,8 @@ pub +walk-spec : {M : Type 1} → statement M
     (walk-judge-requires t)
     (walk-is-death-requires t)
     (walk-death-requires t)
+    (walk-is-open-requires t)
+    (walk-mark-ended-requires t)
     (walk-note-death-requires t)
     (walk-with-death-requires t)
     (walk-is-continued-requires t)
@@ -380,6 +472,9 @@ pub +walk-spec : {M : Type 1} → statement M
     (walk-walk-requires t)
     (walk-array-write-entered-2 t)
     (walk-returns-2 t)
+    (walk-is-kept-requires t)
+    (walk-zero-requires t)
+    (walk-mark-ended-requires-2 t)
     (walk-note-cut-requires t)
     (walk-with-cut-requires t)
     (walk-add-i t)

@@ -1,4 +1,5 @@
 -- `Figure::of_quantity` meets its contract. Assumes nothing.
+use mathlib.Core.Bool.{true}
 use borrow.Author.Needs.{needs}
 use Rattle.figure.specs.Operations.{of-quantity}
 use Rattle.figure.proofs.Wholes.{quantity-power, quantity-answer}
@@ -17,7 +18,7 @@ fitted-requires c κs = let s = c .before .before in quantity-power (s .args .p)
 returns : tie.Need-returns
 unfolding of-quantity
 returns c = let z = c .before in let s = z .before .before in
-    quantity-answer (s .args .p) (s .pre) (z .negative .ensures) (s .args .c) (z .before .wide .ensures) (c .fitted .ensures)
+    quantity-answer (s .args .p) (s .pre) (z .negative .ensures) true (s .args .c) (z .before .wide .ensures) (c .fitted .ensures)
 
 pub of-quantity-spec : {M : Type 1} → statement M
 of-quantity-spec = tie.close (tie.spec wide-requires negative-requires fitted-requires returns)

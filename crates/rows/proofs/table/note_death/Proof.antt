@@ -35,7 +35,7 @@ raise-down-requires-2 c κs =
     let q = u .raise-up .ensures in (
       omega (arith, h .0),
       q .size ∙ p .size ∙ h .1 .size,
-      rw (total-behind q (1008 + s .args .s * 4) (omega arith) ∙ total-behind p (1008 + s .args .s * 4) (omega arith))
+      rw (total-behind q (1010 + s .args .s * 4) (omega arith) ∙ total-behind p (1010 + s .args .s * 4) (omega arith))
           (h .1 .each-row (s .args .s) .lower),
       h .2,
     )
@@ -56,8 +56,8 @@ raise-up-requires-2 c κs =
     let r = e .raise-down2 .ensures in (
       omega (arith, h .0),
       r .size ∙ q .size ∙ p .size ∙ h .1 .size,
-      rw (total-behind r (1008 + s .args .s * 4 + 2) (omega arith) ∙ total-behind q (1008 + s .args .s * 4 + 2) (omega arith)
-          ∙ total-behind p (1008 + s .args .s * 4 + 2) (omega arith)) (h .1 .each-row (s .args .s) .upper),
+      rw (total-behind r (1010 + s .args .s * 4 + 2) (omega arith) ∙ total-behind q (1010 + s .args .s * 4 + 2) (omega arith)
+          ∙ total-behind p (1010 + s .args .s * 4 + 2) (omega arith)) (h .1 .each-row (s .args .s) .upper),
       h .3,
     )
 

@@ -21,7 +21,7 @@ abbrev μ-loop : tie.MeasureT-loop
 μ-loop words index s r₀ count i₀ r i = count - i
 
 abbrev start : tie.After-exit-count Inv-loop μ-loop → tie.Start Inv-loop μ-loop
-start c = c .before .before .before .before .before .before
+start c = c .before .before .before .before .before .before .before .before .before .before
 
 few : (c : tie.After-exit-count Inv-loop μ-loop) → c .exit-count .result ≤ 16
 few c = let s = start c in count-few (s .pre .0) (s .pre .1) (c .exit-count .ensures .0)
@@ -40,24 +40,38 @@ placed c = let l = c .before .before .before in let s = start (l .before .before
 zero-requires : tie.Need-zero-requires Inv-loop μ-loop
 zero-requires c κs = search needs
 
+exactly-requires : tie.Need-exactly-requires Inv-loop μ-loop
+exactly-requires c κs = search needs
+
 zero-requires-2 : tie.Need-zero-requires-2 Inv-loop μ-loop
 zero-requires-2 c κs = search needs
+
+exactly-requires-2 : tie.Need-exactly-requires-2 Inv-loop μ-loop
+exactly-requires-2 c κs = search needs
 
 zero-requires-3 : tie.Need-zero-requires-3 Inv-loop μ-loop
 zero-requires-3 c κs = search needs
 
+exactly-requires-3 : tie.Need-exactly-requires-3 Inv-loop μ-loop
+exactly-requires-3 c κs = search needs
+
 zero-requires-4 : tie.Need-zero-requires-4 Inv-loop μ-loop
 zero-requires-4 c κs = search needs
 
+exactly-requires-4 : tie.Need-exactly-requires-4 Inv-loop μ-loop
+exactly-requires-4 c κs = search needs
+
 exit-count-requires : tie.Need-exit-count-requires Inv-loop μ-loop
-exit-count-requires c κs = c .before .before .before .before .before .pre .1
+exit-count-requires c κs = c .before .before .before .before .before .before .before .before .before .pre .1
 
 loop-holds : tie.Need-loop-holds Inv-loop μ-loop
-loop-holds c = let s = start c in let z = c .before .before .before in (
-  omega arith,
-  summed-none (net-of (s .args .words .now)) (s .args .s) (z .before .zero .ensures) (z .zero2 .ensures) (c .before .before .zero3 .ensures)
-      (c .before .zero4 .ensures),
-)
+loop-holds c =
+    let s = start c in let e4 = c .before in let e3 = e4 .before .before in let e2 = e3 .before .before in let e1 = e2 .before .before in (
+      omega arith,
+      summed-none (net-of (s .args .words .now)) (s .args .s) (rw (e1 .before .zero .ensures) at (e1 .exactly .ensures))
+          (rw (e2 .before .zero2 .ensures) at (e2 .exactly2 .ensures)) (rw (e3 .before .zero3 .ensures) at (e3 .exactly3 .ensures))
+          (rw (e4 .before .zero4 .ensures) at (e4 .exactly4 .ensures)),
+    )
 
 slot-requires : tie.Need-slot-requires Inv-loop μ-loop
 slot-requires c κs = (start (c .before .before) .pre .1, omega (arith, c .loop-test .taken, few (c .before .before)))
@@ -112,9 +126,13 @@ sums-of-spec =
     Inv-loop
     μ-loop
     zero-requires
+    exactly-requires
     zero-requires-2
+    exactly-requires-2
     zero-requires-3
+    exactly-requires-3
     zero-requires-4
+    exactly-requires-4
     exit-count-requires
     loop-holds
     slot-requires

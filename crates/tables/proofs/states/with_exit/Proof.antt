@@ -10,6 +10,7 @@ use Rattle.figure.specs.Operands.{Sized}
 use Rattle.figure.proofs.Sized.{sized-≤, times-up-sized, times-down-sized, plus-up-sized}
 use Rattle.word.specs.Words.{kind}
 use Rattle.model.specs.Index.{transition-at}
+use Rattle.tables.specs.Internal.Told.{moment-of}
 use Rattle.tables.proofs.Firsts.{FastRead, SlowRead, first-long, first-long-fast, fast-1, fast-2, fast-3, fast-read, slow-1, slow-read}
 use Rattle.tables.proofs.Firsts.{mean-sized, deviation-sized, probability-sized, rate-sized}
 use Rattle.tables.proofs.StateSums.{with-fast, with-slow}
@@ -45,7 +46,8 @@ slow-figure : (c : tie.After-figure-at4) → let e = c .before .before in
     SlowRead ((transition-at (start (e .before) .args .part .now)) .manner) (c .figure-at4 .result)
 slow-figure c = let e = c .before .before in slow-read (start (e .before) .pre .0) (not-seven e) (c .figure-at4 .ensures)
 
-moment-operand : (c : tie.After-second-moment) → Sized 9 200 (c .second-moment .result)
+moment-operand : (c : tie.After-second-moment) → Sized 9 200 (c .second-moment .result .figure)
+unfolding moment-of
 moment-operand c = let f = fast-figures (c .before .before .before .before .before) in
     rw (c .second-moment .ensures) (sized-≤ (lit≤ tt) (plus-up-sized (times-up-sized (mean-sized f) (mean-sized f))
     (times-up-sized (deviation-sized f) (deviation-sized f))))
@@ -92,44 +94,45 @@ part-figure-at-end-3 c = search needs
 figure-at-requires-3 : tie.Need-figure-at-requires-3
 figure-at-requires-3 c κs = let t = c .before .before .before .before .before in fast-3 (start (t .before) .pre .0) (is-seven t)
 
-times-up-requires : tie.Need-times-up-requires
-times-up-requires c κs = let f = fast-figures c in (sized-≤ (lit≤ tt) (probability-sized f), sized-≤ (lit≤ tt) (mean-sized f))
+times-up-telling-requires : tie.Need-times-up-telling-requires
+times-up-telling-requires c κs = let f = fast-figures c in (sized-≤ (lit≤ tt) (probability-sized f), sized-≤ (lit≤ tt) (mean-sized f))
 
-plus-up-requires : tie.Need-plus-up-requires
-plus-up-requires c κs = let f = fast-figures (c .before) in (
+added-up-requires : tie.Need-added-up-requires
+added-up-requires c κs = let f = fast-figures (c .before) in (
   sized-≤ (lit≤ tt) (start (fast-arm (c .before) .before) .pre .1 .up),
-  rw (c .times-up .ensures) (sized-≤ (lit≤ tt) (times-up-sized (probability-sized f) (mean-sized f))),
+  rw (c .times-up-telling .ensures) (sized-≤ (lit≤ tt) (times-up-sized (probability-sized f) (mean-sized f))),
 )
 
-times-down-requires : tie.Need-times-down-requires
-times-down-requires c κs = let f = fast-figures (c .before .before) in (sized-≤ (lit≤ tt) (probability-sized f), sized-≤ (lit≤ tt) (mean-sized f))
+times-down-telling-requires : tie.Need-times-down-telling-requires
+times-down-telling-requires c κs = let f = fast-figures (c .before .before) in
+    (sized-≤ (lit≤ tt) (probability-sized f), sized-≤ (lit≤ tt) (mean-sized f))
 
-plus-down-requires : tie.Need-plus-down-requires
-plus-down-requires c κs = let r = c .before .before .before in let f = fast-figures r in (
+added-down-requires : tie.Need-added-down-requires
+added-down-requires c κs = let r = c .before .before .before in let f = fast-figures r in (
   sized-≤ (lit≤ tt) (start (fast-arm r .before) .pre .1 .down),
-  rw (c .times-down .ensures) (sized-≤ (lit≤ tt) (times-down-sized (probability-sized f) (mean-sized f))),
+  rw (c .times-down-telling .ensures) (sized-≤ (lit≤ tt) (times-down-sized (probability-sized f) (mean-sized f))),
 )
 
 second-moment-requires : tie.Need-second-moment-requires
 second-moment-requires c κs = let f = fast-figures (c .before .before .before .before) in
     (sized-≤ (lit≤ tt) (mean-sized f), sized-≤ (lit≤ tt) (deviation-sized f))
 
-times-up-requires-2 : tie.Need-times-up-requires-2
-times-up-requires-2 c κs = let f = fast-figures (c .before .before .before .before .before) in
+by-moment-requires : tie.Need-by-moment-requires
+by-moment-requires c κs = let f = fast-figures (c .before .before .before .before .before) in
     (sized-≤ (lit≤ tt) (probability-sized f), sized-≤ (lit≤ tt) (moment-operand c))
 
-plus-up-requires-2 : tie.Need-plus-up-requires-2
-plus-up-requires-2 c κs = let r = c .before .before .before .before .before .before in (
+added-up-requires-2 : tie.Need-added-up-requires-2
+added-up-requires-2 c κs = let r = c .before .before .before .before .before .before in (
   sized-≤ (lit≤ tt) (start (fast-arm r .before) .pre .1 .moment),
-  rw (c .times-up2 .ensures) (sized-≤ (lit≤ tt) (times-up-sized (probability-sized (fast-figures r)) (moment-operand (c .before)))),
+  rw (c .by-moment .ensures) (sized-≤ (lit≤ tt) (times-up-sized (probability-sized (fast-figures r)) (moment-operand (c .before)))),
 )
 
 returns : tie.Need-returns
 returns c =
     let share = c .before in let square = share .before in let floor = square .before in let low = floor .before in let mean = low .before in
     let high = mean .before in let r = high .before in
-    with-fast (start (fast-arm r .before) .args .s) (fast-figures r) (high .times-up .ensures) (mean .plus-up .ensures) (low .times-down .ensures)
-    (floor .plus-down .ensures) (square .second-moment .ensures) (share .times-up2 .ensures) (c .plus-up2 .ensures)
+    with-fast (start (fast-arm r .before) .args .s) (fast-figures r) (high .times-up-telling .ensures) (mean .added-up .ensures)
+    (low .times-down-telling .ensures) (floor .added-down .ensures) (square .second-moment .ensures) (share .by-moment .ensures) (c .added-up2 .ensures)
 
 sub-figure-at-4 : tie.Need-sub-figure-at-4
 sub-figure-at-4 c = omega (arith, first-long (start (c .before) .pre .0))
@@ -143,11 +146,18 @@ part-figure-at-end-4 c = search needs
 figure-at-requires-4 : tie.Need-figure-at-requires-4
 figure-at-requires-4 c κs = let e = c .before in slow-1 (start (e .before) .pre .0) (not-seven e)
 
-plus-up-requires-3 : tie.Need-plus-up-requires-3
-plus-up-requires-3 c κs = (sized-≤ (lit≤ tt) (start (c .before .before .before) .pre .1 .rate), sized-≤ (lit≤ tt) (rate-sized (slow-figure c)))
+exactly-requires : tie.Need-exactly-requires
+exactly-requires c κs = search needs
+
+added-up-requires-3 : tie.Need-added-up-requires-3
+added-up-requires-3 c κs = let r = c .before in (
+  sized-≤ (lit≤ tt) (start (r .before .before .before) .pre .1 .rate),
+  rw (c .exactly .ensures) (sized-≤ (lit≤ tt) (rate-sized (slow-figure r))),
+)
 
 returns-2 : tie.Need-returns-2
-returns-2 c = with-slow (start (c .before .before .before .before) .args .s) (slow-figure (c .before)) (c .plus-up3 .ensures)
+returns-2 c = let r = c .before .before in
+    with-slow (start (r .before .before .before) .args .s) (slow-figure r) (c .before .exactly .ensures) (c .added-up3 .ensures)
 
 pub with-exit-spec : {M : Type 1} → statement M
 with-exit-spec =
@@ -167,17 +177,18 @@ with-exit-spec =
     part-figure-at-start-3
     part-figure-at-end-3
     figure-at-requires-3
-    times-up-requires
-    plus-up-requires
-    times-down-requires
-    plus-down-requires
+    times-up-telling-requires
+    added-up-requires
+    times-down-telling-requires
+    added-down-requires
     second-moment-requires
-    times-up-requires-2
-    plus-up-requires-2
+    by-moment-requires
+    added-up-requires-2
     returns
     sub-figure-at-4
     part-figure-at-start-4
     part-figure-at-end-4
     figure-at-requires-4
-    plus-up-requires-3
+    exactly-requires
+    added-up-requires-3
     returns-2)

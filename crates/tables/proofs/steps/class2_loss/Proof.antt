@@ -5,69 +5,116 @@ use lib.Dec.{lit≤}
 use Rattle.figure.proofs.Sized.{sized-≤, times-up-sized}
 use Rattle.tables.specs.Internal.Steps.{class2-loss-of}
 use Rattle.tables.proofs.Search.{square-is}
-use Rattle.tables.proofs.Losses.{Over, square-low, square-high, grains-square-fits, whole-sized, divisor-sized, divisor-above, quotient-sized, shifted-sized}
+use Rattle.tables.proofs.Sections.{same-figure}
+use Rattle.tables.proofs.Losses.{square-low, square-high, grains-square-fits}
+use Rattle.tables.proofs.Losses.{Over, whole-sized, divisor-sized, divisor-above, quotient-sized, shifted-sized}
 use Rattle.tables.proofs.steps.class2_loss.Statement.{statement}
 use Rattle.tables.proofs.steps.class2_loss.Tie as tie
 
-over : (c : tie.After-of-whole) → let s = c .before in Over (s .args .moment) (s .args .time2) (s .args .n * s .args .n) (c .of-whole .result)
-over c = let s = c .before in record {
+abbrev start : tie.After-of-whole-telling → tie.Start
+start c = c .before .before .before
+
+over : (c : tie.After-of-whole-telling) → let s = start c in
+    Over (s .args .moment .figure) (s .args .time2 .figure) (s .args .n * s .args .n) (c .of-whole-telling .result .figure)
+over c = let s = start c in record {
   moment-sized = s .pre .0 .2;
   time-sized = s .pre .0 .3;
   time-above = s .pre .1 .0;
   low = square-low (s .pre .1 .1) (s .pre .1 .2);
   high = square-high (s .pre .1 .1) (s .pre .1 .2);
-  is = c .of-whole .ensures;
+  is = same-figure (c .of-whole-telling .ensures);
 }
 
-mul-of-whole : tie.Need-mul-of-whole
-mul-of-whole c = grains-square-fits (c .pre .1 .1) (c .pre .1 .2)
+times-up-telling-requires : tie.Need-times-up-telling-requires
+times-up-telling-requires c κs = search needs
 
-of-whole-requires : tie.Need-of-whole-requires
-of-whole-requires c κs = search needs
+mul-of-whole-telling : tie.Need-mul-of-whole-telling
+mul-of-whole-telling c = let s = c .before .before in grains-square-fits (s .pre .1 .1) (s .pre .1 .2)
 
-times-down-requires : tie.Need-times-down-requires
-times-down-requires c κs = (sized-≤ (lit≤ tt) (whole-sized (over c)), sized-≤ (lit≤ tt) (c .before .pre .0 .3))
+of-whole-telling-requires : tie.Need-of-whole-telling-requires
+of-whole-telling-requires c κs = search needs
 
-divided-up-requires : tie.Need-divided-up-requires
-divided-up-requires c κs = let o = over (c .before) in
-    (sized-≤ (lit≤ tt) (o .moment-sized), sized-≤ (lit≤ tt) (divisor-sized o (c .times-down .ensures)), divisor-above o (c .times-down .ensures))
+times-down-telling-requires : tie.Need-times-down-telling-requires
+times-down-telling-requires c κs = let o = over (c .before) in (sized-≤ (lit≤ tt) (whole-sized o), sized-≤ (lit≤ tt) (o .time-sized))
+
+divided-up-telling-requires : tie.Need-divided-up-telling-requires
+divided-up-telling-requires c κs = let b = c .before in let o = over (b .before .before) in let e = same-figure (b .times-down-telling .ensures) in
+    (sized-≤ (lit≤ tt) (o .moment-sized), sized-≤ (lit≤ tt) (divisor-sized o e), divisor-above o e)
 
 times-ten-requires : tie.Need-times-ten-requires
-times-ten-requires c κs = let b = c .before in
-    (sized-≤ (lit≤ tt) (quotient-sized (over (b .before)) (b .times-down .ensures) (c .divided-up .ensures)), lit≤ tt)
-
-times-up-requires : tie.Need-times-up-requires
-times-up-requires c κs = search needs
-
-plus-up-requires : tie.Need-plus-up-requires
-plus-up-requires c κs = let r = c .before in let q = r .before in let b = q .before in let s = b .before .before in (
-  rw (c .times-up .ensures) (sized-≤ (lit≤ tt) (times-up-sized (s .pre .0 .0) (s .pre .0 .1))),
-  shifted-sized 12 (lit≤ tt) (quotient-sized (over (b .before)) (b .times-down .ensures) (q .divided-up .ensures)) (r .times-ten .ensures),
+times-ten-requires c κs = let q = c .before .before in let b = q .before .before in (
+  sized-≤ (lit≤ tt)
+      (quotient-sized (over (b .before .before)) (same-figure (b .times-down-telling .ensures)) (same-figure (q .divided-up-telling .ensures))),
+  lit≤ tt,
 )
+
+plus-up-telling-requires : tie.Need-plus-up-telling-requires
+plus-up-telling-requires c κs = let q = c .before .before .before in let b = q .before .before in let w = b .before .before in let s = start w in (
+  rw (w .before .times-up-telling .ensures) (sized-≤ (lit≤ tt) (times-up-sized (s .pre .0 .0) (s .pre .0 .1))),
+  shifted-sized 12 (lit≤ tt)
+      (quotient-sized (over w) (same-figure (b .times-down-telling .ensures)) (same-figure (q .divided-up-telling .ensures))) (c .times-ten .ensures),
+)
+
+both-requires : tie.Need-both-requires
+both-requires c κs = search needs
+
+both-requires-2 : tie.Need-both-requires-2
+both-requires-2 c κs = search needs
+
+both-requires-3 : tie.Need-both-requires-3
+both-requires-3 c κs = search needs
+
+both-requires-4 : tie.Need-both-requires-4
+both-requires-4 c κs = search needs
+
+both-requires-5 : tie.Need-both-requires-5
+both-requires-5 c κs = search needs
+
+both-requires-6 : tie.Need-both-requires-6
+both-requires-6 c κs = search needs
+
+both-requires-7 : tie.Need-both-requires-7
+both-requires-7 c κs = search needs
 
 returns : tie.Need-returns
 unfolding class2-loss-of
 returns c =
-    let m = c .before in let r = m .before in let q = r .before in let b = q .before in
+    let k6 = c .before in let k5 = k6 .before in let k4 = k5 .before in let k3 = k4 .before in let k2 = k3 .before in let k1 = k2 .before in
+    let sum = k1 .before .before in let r = sum .before in let q = r .before .before .before in let b = q .before .before in
+    let w = b .before .before in
     rw (
-      c .plus-up .ensures,
-      m .times-up .ensures,
+      c .both7 .ensures,
+      k6 .both6 .ensures,
+      k5 .both5 .ensures,
+      k4 .both4 .ensures,
+      k3 .both3 .ensures,
+      k2 .both2 .ensures,
+      k1 .both .ensures,
+      sum .plus-up-telling .ensures,
       r .times-ten .ensures,
-      q .divided-up .ensures,
-      b .times-down .ensures,
-      b .before .of-whole .ensures,
-      square-is (b .before .before .args .n),
+      q .divided-up-telling .ensures,
+      b .times-down-telling .ensures,
+      w .of-whole-telling .ensures,
+      w .before .times-up-telling .ensures,
+      square-is (start w .args .n),
     )
 
 pub class2-loss-spec : {M : Type 1} → statement M
 class2-loss-spec =
     tie.close
     (tie.spec
-    mul-of-whole
-    of-whole-requires
-    times-down-requires
-    divided-up-requires
+    times-up-telling-requires
+    mul-of-whole-telling
+    of-whole-telling-requires
+    times-down-telling-requires
+    divided-up-telling-requires
     times-ten-requires
-    times-up-requires
-    plus-up-requires
+    plus-up-telling-requires
+    both-requires
+    both-requires-2
+    both-requires-3
+    both-requires-4
+    both-requires-5
+    both-requires-6
+    both-requires-7
     returns)

@@ -69,8 +69,8 @@ word-at-requires c κs = search needs
 from-requires : tie.Need-from-requires
 from-requires c κs = search needs
 
-rate-sum-requires : tie.Need-rate-sum-requires
-rate-sum-requires c κs = leaves c .small
+told-rate-sum-requires : tie.Need-told-rate-sum-requires
+told-rate-sum-requires c κs = leaves c .small
 
 is-fast-requires : tie.Need-is-fast-requires
 is-fast-requires c κs = search needs
@@ -90,15 +90,15 @@ part-class2-step-end c = search needs
 class2-step-requires : tie.Need-class2-step-requires
 class2-step-requires c κs = let t = c .before in let p = placed (found-place (t .before)) in let s = start (found-place (t .before)) in (
   (placed-first p, ap is-fast (placed-manner p) ∙ placed-fast p ∙ is-seven t),
-  (rw (t .before .before .rate-sum .ensures) (leaves (t .before .before .before) .rate .sized), time-in-range (s .pre .0), time-positive (s .pre .0)),
+  (rw (t .before .before .told-rate-sum .ensures) (leaves (t .before .before .before) .rate .sized), time-in-range (s .pre .0), time-positive (s .pre .0)),
 )
 
 returns : tie.Need-returns
 returns c = let t = c .before .before in let w = found-place (t .before) in
-    found-fast (start w .pre .0) (placed w) (leaves (t .before .before .before)) (t .before .before .rate-sum .ensures) (is-seven t) (c .class2-step .ensures)
+    found-fast (start w .pre .0) (placed w) (leaves (t .before .before .before)) (t .before .before .told-rate-sum .ensures) (is-seven t) (c .class2-step .ensures)
 
-mean-down-requires : tie.Need-mean-down-requires
-mean-down-requires c κs = leaves (c .before .before .before) .small
+told-mean-down-requires : tie.Need-told-mean-down-requires
+told-mean-down-requires c κs = leaves (c .before .before .before) .small
 
 add-figure-at : tie.Need-add-figure-at
 add-figure-at c = search needs
@@ -107,49 +107,54 @@ mul-figure-at : tie.Need-mul-figure-at
 mul-figure-at c = search needs
 
 sub-figure-at : tie.Need-sub-figure-at
-sub-figure-at c = omega (arith, placed-inside (placed (found-place (c .before .before .before .before))))
+sub-figure-at c = omega (arith, placed-inside (placed (found-place (c .before .before .before .before .before))))
 
 part-figure-at-start : tie.Need-part-figure-at-start
-part-figure-at-start c = omega (arith, placed-inside (placed (found-place (c .before .before .before .before))))
+part-figure-at-start c = omega (arith, placed-inside (placed (found-place (c .before .before .before .before .before))))
 
 part-figure-at-end : tie.Need-part-figure-at-end
 part-figure-at-end c = search needs
 
 figure-at-requires : tie.Need-figure-at-requires
-figure-at-requires c κs = let e = c .before .before .before .before in behind-low (placed (found-place (e .before))) (not-seven e)
+figure-at-requires c κs = let e = c .before .before .before .before .before in behind-low (placed (found-place (e .before))) (not-seven e)
 
 zero-requires : tie.Need-zero-requires
 zero-requires c κs = search needs
 
+exactly-requires : tie.Need-exactly-requires
+exactly-requires c κs = search needs
+
 returns-2 : tie.Need-returns-2
-returns-2 c = let e = c .before .before .before .before .before .before in let w = found-place (e .before) in
-    found-lone (start w .pre .0) (placed w) (leaves (e .before .before .before)) (e .before .before .rate-sum .ensures) (not-seven e)
-    (c .before .before .before .before .before .mean-down .ensures) (c .before .before .before .if2 .taken) (c .before .figure-at .ensures) (c .zero .ensures)
+returns-2 c =
+    let z = c .before in let r = z .before in let y = r .before .before in let m = y .before .before .before in let e = m .before in
+    let w = found-place (e .before) in
+    found-lone (start w .pre .0) (placed w) (leaves (e .before .before .before)) (e .before .before .told-rate-sum .ensures) (not-seven e)
+    (m .told-mean-down .ensures) (y .if2 .taken) (r .figure-at .ensures) (rw (z .zero .ensures) at (c .exactly .ensures))
 
 mul-class3-step : tie.Need-mul-class3-step
 mul-class3-step c = search needs
 
 sub-class3-step : tie.Need-sub-class3-step
-sub-class3-step c = omega (arith, placed-inside (placed (found-place (c .before .before .before .before))))
+sub-class3-step c = omega (arith, placed-inside (placed (found-place (c .before .before .before .before .before))))
 
 part-class3-step-start : tie.Need-part-class3-step-start
-part-class3-step-start c = omega (arith, placed-inside (placed (found-place (c .before .before .before .before))))
+part-class3-step-start c = omega (arith, placed-inside (placed (found-place (c .before .before .before .before .before))))
 
 part-class3-step-end : tie.Need-part-class3-step-end
 part-class3-step-end c = search needs
 
-moment-sum-requires : tie.Need-moment-sum-requires
-moment-sum-requires c κs = leaves (c .before .before .before .before .before .before .before) .small
+told-moment-sum-requires : tie.Need-told-moment-sum-requires
+told-moment-sum-requires c κs = leaves (c .before .before .before .before .before .before .before .before) .small
 
 class3-step-requires : tie.Need-class3-step-requires
-class3-step-requires c κs = let n = c .before .before in let e = n .before .before .before in let p = placed (found-place (e .before)) in
+class3-step-requires c κs = let n = c .before .before in let e = n .before .before .before .before in let p = placed (found-place (e .before)) in
     let s = start (found-place (e .before)) in let l = leaves (e .before .before .before) in (
       (placed-first p, ap is-fast (placed-manner p) ∙ placed-fast p ∙ not-seven e),
       (
         (
-          rw (e .before .before .rate-sum .ensures) (l .rate .sized),
-          rw (n .before .before .mean-down .ensures) (l .mean .sized),
-          rw (c .moment-sum .ensures) (l .moment .sized),
+          rw (e .before .before .told-rate-sum .ensures) (l .rate .sized),
+          rw (n .before .before .before .told-mean-down .ensures) (l .mean .sized),
+          rw (c .told-moment-sum .ensures) (l .moment .sized),
           time-in-range (s .pre .0),
         ),
         (pos-of-ne-zero (n .if2 .left), time-positive (s .pre .0)),
@@ -157,9 +162,9 @@ class3-step-requires c κs = let n = c .before .before in let e = n .before .bef
     )
 
 returns-3 : tie.Need-returns-3
-returns-3 c = let n = c .before .before .before in let e = n .before .before .before in let w = found-place (e .before) in
-    found-slow (start w .pre .0) (placed w) (leaves (e .before .before .before)) (e .before .before .rate-sum .ensures) (not-seven e)
-    (n .before .before .mean-down .ensures) (n .if2 .left) (c .before .moment-sum .ensures) (c .class3-step .ensures)
+returns-3 c = let n = c .before .before .before in let e = n .before .before .before .before in let w = found-place (e .before) in
+    found-slow (start w .pre .0) (placed w) (leaves (e .before .before .before)) (e .before .before .told-rate-sum .ensures) (not-seven e)
+    (n .before .before .before .told-mean-down .ensures) (n .if2 .left) (c .before .told-moment-sum .ensures) (c .class3-step .ensures)
 
 pub step-at-spec : {M : Type 1} → statement M
 step-at-spec =
@@ -172,7 +177,7 @@ step-at-spec =
     part-word-at-end
     word-at-requires
     from-requires
-    rate-sum-requires
+    told-rate-sum-requires
     is-fast-requires
     mul-class2-step
     sub-class2-step
@@ -180,7 +185,7 @@ step-at-spec =
     part-class2-step-end
     class2-step-requires
     returns
-    mean-down-requires
+    told-mean-down-requires
     add-figure-at
     mul-figure-at
     sub-figure-at
@@ -188,11 +193,12 @@ step-at-spec =
     part-figure-at-end
     figure-at-requires
     zero-requires
+    exactly-requires
     returns-2
     mul-class3-step
     sub-class3-step
     part-class3-step-start
     part-class3-step-end
-    moment-sum-requires
+    told-moment-sum-requires
     class3-step-requires
     returns-3)
