@@ -1,6 +1,6 @@
 -- From what the entry points promise to what the exported functions do. Assumes nothing.
 use Prim.Native.Nat.{ℕ}
-use mathlib.Core.Path.{_≡_, ap, subst, _∙_}
+use mathlib.Core.Path.{_≡_, ap, ap₂, subst, _∙_}
 use mathlib.Core.List.{List}
 use lib.IntN.{ℤ}
 use lib.ListN.{length}
@@ -18,9 +18,10 @@ pub assessed : {before after : List ℕ} {budget number : ℕ} {numbers : List �
 assessed {before} {budget = n} a p h =
     record {
       number-is = h .number-is ∙ ap (λ v. v .number) (p .values-are);
-      numbers-are = h .numbers-are ∙ ap numbers-of (p .values-are);
+      numbers-are = h .numbers-are ∙ ap₂ numbers-of (p .values-are) (p .marks-are);
       powers-are = h .powers-are ∙ ap powers-of (p .values-are);
       accuracy = subst (AccuracyRule before n) (p .answer-is) (p .accuracy);
+      marks-mean = rw (p .answer-is, p .marks-are) at (p .marks-mean);
       words-unchanged = p .words-unchanged;
     }
 
@@ -30,10 +31,11 @@ pub assessed-rows : (before after : List ℕ) (budget : ℕ) (given left : List 
 assessed-rows before after budget given left a number numbers powers p h =
     record {
       number-is = h .number-is ∙ ap (λ v. v .number) (p .values-are);
-      numbers-are = h .numbers-are ∙ ap numbers-of (p .values-are);
+      numbers-are = h .numbers-are ∙ ap₂ numbers-of (p .values-are) (p .marks-are);
       powers-are = h .powers-are ∙ ap powers-of (p .values-are);
       rows-are = p .rows-are;
       accuracy = subst (AccuracyRule before budget) (p .answer-is) (p .accuracy);
       rows-accurate = subst (λ x. RowRule before budget x given left) (p .answer-is) (p .rows-accurate);
+      marks-mean = rw (p .answer-is, p .marks-are) at (p .marks-mean);
       words-unchanged = p .words-unchanged;
     }

@@ -10,20 +10,24 @@ use lib.IntN.{ℤ, pos, negsuc}
 use Rattle.figure.specs.declared.Figure.{Figure}
 use Rattle.figure.specs.Rounding.{IsFigure}
 use Rattle.figure.specs.Operations.{at-or-below}
+use Rattle.tree.specs.Paths.{one-if}
 use Rattle.tree.specs.Report.{Values, values, answer}
+use Rattle.tree.specs.Marks.{Marks, marks-with}
 use Rattle.tree.specs.declared.Row.{Row}
 use Rattle.tree.specs.Rows.{answer-with-rows, rows-after}
 use Rattle.accuracy.specs.Rule.{AccuracyRule}
 use Rattle.accuracy.specs.RowRule.{RowRule}
+use Rattle.accuracy.specs.Exactness.{MarkRule}
 use Rattle.bounds.specs.declared.Answer.{Answer}
-use Rattle.bounds.specs.Answers.{answer-of}
-use Rattle.text.specs.Text.{answer-text}
+use Rattle.bounds.specs.Answers.{answer-of, marks-of-answer}
+use Rattle.text.specs.Text.{text-of}
+use Rattle.text.specs.Rules.{Rules}
 
--- the place, the digits of the lower, the upper and the cut figure, and the counts of deaths, cuts and steps
-abbrev pub numbers-of : Values → List ℕ
-numbers-of v =
+-- the place, the digits of the lower, the upper and the cut figure, the counts of deaths, cuts and steps, and the marks of the lower and the upper
+abbrev pub numbers-of : Values → Marks → List ℕ
+numbers-of v k =
     let r = v .report in
-    v .place ∷ r .lower .digits ∷ r .upper .digits ∷ r .cut .digits ∷ r .deaths ∷ r .cuts ∷ r .steps ∷ []
+    v .place ∷ r .lower .digits ∷ r .upper .digits ∷ r .cut .digits ∷ r .deaths ∷ r .cuts ∷ r .steps ∷ one-if (k .lower) ∷ one-if (k .upper) ∷ []
 
 -- the powers of ten of the lower, the upper and the cut figure
 abbrev pub powers-of : Values → List ℤ
@@ -34,36 +38,41 @@ powers-of v =
 -- an answer was put into the lent arrays, and its number, 0 for a report, handed back
 pub record AnswerPut (a : Answer) (number : ℕ) (numbers : List ℕ) (powers : List ℤ) : Type 0 where
   pub number-is : number ≡ values (answer-of a) .number
-  pub numbers-are : numbers ≡ numbers-of (values (answer-of a))
+  pub numbers-are : numbers ≡ numbers-of (values (answer-of a)) (marks-of-answer a)
   pub powers-are : powers ≡ powers-of (values (answer-of a))
 
 -- What `bounds_assess` promises, of the words before and after, the budget, the number that it returns, and what the lent arrays hold after.
 pub record Assessed (before after : List ℕ) (budget : ℕ) (number : ℕ) (numbers : List ℕ) (powers : List ℤ) : Type 0 where
   pub number-is : number ≡ values (answer before budget) .number
-  pub numbers-are : numbers ≡ numbers-of (values (answer before budget))
+  pub numbers-are : numbers ≡ numbers-of (values (answer before budget)) (marks-with before budget (answer before budget))
   pub powers-are : powers ≡ powers-of (values (answer before budget))
-  -- the accuracy rule holds of that answer
+  -- the accuracy rule holds of that answer, and a mark 1 means that the figure equals its exact sum
   pub accuracy : AccuracyRule before budget (answer before budget)
+  pub marks-mean : MarkRule before budget (answer before budget) (marks-with before budget (answer before budget))
   pub words-unchanged : after ≡ before
 
 -- What `bounds_assess_rows` promises, beside that of the rows before and after.
 pub record AssessedRows (before after : List ℕ) (budget : ℕ) (given left : List Row) (number : ℕ) (numbers : List ℕ) (powers : List ℤ) : Type 0 where
   pub number-is : number ≡ values (answer-with-rows before budget (length given)) .number
-  pub numbers-are : numbers ≡ numbers-of (values (answer-with-rows before budget (length given)))
+  pub numbers-are : numbers
+      ≡ numbers-of (values (answer-with-rows before budget (length given))) (marks-with before budget (answer-with-rows before budget (length given)))
   pub powers-are : powers ≡ powers-of (values (answer-with-rows before budget (length given)))
   -- the caller's table after the call is the definition's
   pub rows-are : left ≡ rows-after before budget given
   -- the accuracy rule holds of that answer and of each row filled
   pub accuracy : AccuracyRule before budget (answer-with-rows before budget (length given))
   pub rows-accurate : RowRule before budget (answer-with-rows before budget (length given)) given left
+  -- a mark 1 means that the figure equals its exact sum
+  pub marks-mean : MarkRule before budget (answer-with-rows before budget (length given))
+      (marks-with before budget (answer-with-rows before budget (length given)))
   pub words-unchanged : after ≡ before
 
 -- What `bounds_text` promises: of the bytes that the lent buffer then holds, the first n are the answer's text. What the others are is free.
 pub record Texted (before after : List ℕ) (budget : ℕ) (bytes : List ℕ) (n : ℕ) : Type 0 where
   pub within : n ≤ length bytes
-  pub text-is : take n bytes ≡ answer-text (answer before budget)
-  -- the accuracy rule holds of that answer
-  pub accuracy : AccuracyRule before budget (answer before budget)
+  pub text-is : take n bytes ≡ text-of before budget (answer before budget)
+  -- the accuracy rule holds of that answer, and what its marks mean
+  pub rules : Rules before budget (answer before budget)
   pub words-unchanged : after ≡ before
 
 -- ---- figures compared
@@ -103,4 +112,4 @@ version-number major minor patch = major * 1000000 + minor * 1000 + patch
 
 -- this version
 abbrev pub version : ℕ
-version = version-number 1 2 0
+version = version-number 1 3 0

@@ -3,8 +3,9 @@ ghost use mathlib.Core.Path.{_≡_};
 ghost use mathlib.Core.List.{[], _∷_};
 ghost use lib.ListN.{take};
 ghost use Rattle.word.specs.Answer.{granted};
+ghost use Rattle.tree.specs.Paths.{one-if};
 ghost use Rattle.tree.specs.Report as definition;
-ghost use Rattle.bounds.specs.Answers.{report-of};
+ghost use Rattle.bounds.specs.Answers.{report-of, marks-of};
 ghost use Rattle.text.specs.Bytes.{most-bytes, Spelled};
 ghost use Rattle.embed.specs.Exports.{AnswerPut, Assessed, AssessedRows, Texted, Compared, numbers-of, powers-of, figure-test, version};
 ghost use Rattle.figure.specs.Rounding.{figure};
@@ -23,9 +24,16 @@ fn put_powers(lower: i32, upper: i32, cut: i32, powers: &mut [i32; 3])
     *powers = [lower, upper, cut];
 }
 
+// A mark as a number.
+fn mark(kept: bool) -> u64
+    ensures { λ r. ⌜ r ≡ one-if kept ⌝ }
+{
+    if kept { 1 } else { 0 }
+}
+
 // The numbers of a report.
-fn put_report(r: Report, values: &mut [u64; 7], powers: &mut [i32; 3])
-    ensures { λ _. ⌜ now (values .exit) ≡ numbers-of (definition.values (granted (report-of r))) ⌝ }
+fn put_report(r: Report, values: &mut [u64; 9], powers: &mut [i32; 3])
+    ensures { λ _. ⌜ now (values .exit) ≡ numbers-of (definition.values (granted (report-of r))) (marks-of r) ⌝ }
     ensures { λ _. ⌜ now (powers .exit) ≡ powers-of (definition.values (granted (report-of r))) ⌝ }
 {
     let lower = r.lower;
@@ -39,17 +47,19 @@ fn put_report(r: Report, values: &mut [u64; 7], powers: &mut [i32; 3])
         r.deaths,
         r.cuts,
         r.steps,
+        mark(r.lower_exact),
+        mark(r.upper_exact),
     ];
     put_powers(lower.power, upper.power, cut.power, powers);
 }
 
 // The number of an answer, 0 for a report, and its numbers.
-fn put_answer(a: Answer, values: &mut [u64; 7], powers: &mut [i32; 3]) -> u64
+fn put_answer(a: Answer, values: &mut [u64; 9], powers: &mut [i32; 3]) -> u64
     ensures { λ r. ⌜ AnswerPut a r (now (values .exit)) (now (powers .exit)) ⌝ }
 {
     match a {
         Answer::Refused(f) => {
-            *values = [f.place() as u64, 0, 0, 0, 0, 0, 0];
+            *values = [f.place() as u64, 0, 0, 0, 0, 0, 0, 0, 0];
             *powers = [0, 0, 0];
             f.number()
         }
@@ -61,13 +71,13 @@ fn put_answer(a: Answer, values: &mut [u64; 7], powers: &mut [i32; 3]) -> u64
 }
 
 // The answer to the words and the budget: 0 for a report, or the refusal's number. Fills `values` with a refusal's place, the digits of the lower,
-// the upper and the cut figure and the counts of deaths, cuts and steps, and `powers` with the figures' powers of ten; all but the place are zero
-// in a refusal.
+// the upper and the cut figure, the counts of deaths, cuts and steps and the marks of the lower and the upper (1 if no operation that the figure rests
+// on lost anything, so that it equals its exact sum), and `powers` with the figures' powers of ten; all but the place are zero in a refusal.
 #[no_mangle]
 pub extern "C" fn bounds_assess(
     words: &[u32],
     budget: u64,
-    values: &mut [u64; 7],
+    values: &mut [u64; 9],
     powers: &mut [i32; 3],
 ) -> u64
     ensures { λ r. ⌜ Assessed (now (words .entry)) (now (words .exit)) budget r (now (values .exit)) (now (powers .exit)) ⌝ }
@@ -82,7 +92,7 @@ pub extern "C" fn bounds_assess_rows(
     words: &[u32],
     budget: u64,
     rows: &mut [Row],
-    values: &mut [u64; 7],
+    values: &mut [u64; 9],
     powers: &mut [i32; 3],
 ) -> u64
     ensures { λ r. ⌜ AssessedRows (now (words .entry)) (now (words .exit)) budget (now (rows .entry)) (now (rows .exit)) r (now (values .exit)) (now (powers .exit)) ⌝ }
@@ -157,5 +167,5 @@ pub extern "C" fn bounds_at_or_below(
 pub extern "C" fn bounds_version() -> u64
     ensures { λ r. ⌜ r ≡ version ⌝ }
 {
-    1_002_000
+    1_003_000
 }

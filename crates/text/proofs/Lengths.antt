@@ -10,7 +10,8 @@ use lib.IntN.{ℤ, pos, negsuc, _+ℤ_}
 use Rattle.figure.specs.declared.Figure.{Figure}
 use Rattle.word.specs.Answer.{Answer, refused, granted}
 use Rattle.tree.specs.Report.{Report}
-use Rattle.text.specs.Text.{ascii, decimal, signed-decimal, figure-text, line, figure-lines, count-lines, refusal-text, answer-text}
+use Rattle.tree.specs.Marks.{Marks}
+use Rattle.text.specs.Text.{ascii, decimal, signed-decimal, figure-text, line, figure-lines, count-lines, mark-digit, exact-line, refusal-text, answer-text}
 use Rattle.text.proofs.Digits.{length-last, length-digits}
 use Rattle.text.proofs.Figures.{first-digit, from-point, eight-digits, from-E}
 
@@ -74,14 +75,19 @@ length-counts deaths cuts steps =
 length-refusal : (number place : ℕ) → length (refusal-text number place) ≤ 44
 length-refusal number place = length-three (decimal number) (ascii " at ") (decimal place) (length-digits 20 number) (le-refl 4) (length-digits 20 place)
 
-pub answer-short : (a : Answer Report) → length (answer-text a) ≤ 256
+length-exact : (k : Marks) → length (exact-line k) ≤ 9
+length-exact k = length-line (ascii "exact ") (mark-digit (k .lower) ∷ mark-digit (k .upper) ∷ []) (le-refl 2)
+
+pub answer-short : (a : Answer Report) (k : Marks) → length (answer-text a k) ≤ 256
 unfolding answer-text
-answer-short (refused number place) = le-trans (length-line (ascii "refused ") (refusal-text number place) (length-refusal number place)) (lit≤ tt)
-answer-short (granted r) =
+answer-short (refused number place) k = le-trans (length-line (ascii "refused ") (refusal-text number place) (length-refusal number place)) (lit≤ tt)
+answer-short (granted r) k =
     le-trans
-    (length-two
+    (length-three
     (figure-lines (r .lower) (r .upper) (r .cut))
     (count-lines (r .deaths) (r .cuts) (r .steps))
+    (exact-line k)
     (length-figures (r .lower) (r .upper) (r .cut))
-    (length-counts (r .deaths) (r .cuts) (r .steps)))
+    (length-counts (r .deaths) (r .cuts) (r .steps))
+    (length-exact k))
     (lit≤ tt)

@@ -14,7 +14,6 @@ use Rattle.word.specs.Model.{Model}
 use Rattle.word.specs.Answer.{Answer, refused, then}
 use Rattle.model.specs.Reading.{read, first-of}
 use Rattle.tree.specs.Report.{answer, walked}
-use Rattle.accuracy.specs.Rule.{AccuracyRule}
 use Rattle.text.specs.Bytes.{words-of, most-bytes, Spelled}
 use Rattle.text.specs.Internal.Words.{word-at}
 use Rattle.text.specs.Faithful.{AnswerEnough}
@@ -128,16 +127,10 @@ enough most bytes budget h = go (decLe (length bytes) most)
         ∙ sym (too-many (words-of part) budget (omega (arith, many-words part, length-take-le most bytes (omega arith))))
 
 -- however long the input, the words of its first 64,024 bytes are read as all of them are
-read-enough : (bytes : List ℕ) (budget : ℕ) → read (words-of bytes) budget ≡ read (words-of (take most-bytes bytes)) budget
+pub read-enough : (bytes : List ℕ) (budget : ℕ) → read (words-of bytes) budget ≡ read (words-of (take most-bytes bytes)) budget
 read-enough bytes budget = enough most-bytes bytes budget (lit< tt)
 
 -- and so the answer is that to all of them
 pub answer-enough : AnswerEnough
 unfolding answer
 answer-enough bytes budget = ap (λ (a : Answer Model). then a (walked budget)) (read-enough bytes budget)
-
--- and the accuracy rule of that answer is the rule of the answer to all of them
-pub rule-enough : (bytes : List ℕ) (budget : ℕ) → AccuracyRule (words-of (take most-bytes bytes)) budget (answer (words-of (take most-bytes bytes)) budget)
-    → AccuracyRule (words-of bytes) budget (answer (words-of bytes) budget)
-rule-enough bytes budget h =
-    record { accurate = λ m r e a. h .accurate m r (sym (read-enough bytes budget) ∙ e) (sym (answer-enough bytes budget) ∙ a) }

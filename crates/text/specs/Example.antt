@@ -21,8 +21,8 @@ bytes-A =
 
 pub record AsDocumented : Type 0 where
   pub words-A : words-of bytes-A ≡ 0x11002001 ∷ 0x2000000A ∷ 0x30000000 ∷ 0x41801000 ∷ 0x50001002 ∷ 0x60400001 ∷ 0xF0000000 ∷ []
-  -- "On model A, .., it prints"
-  pub text-A : printed bytes-A ≡ ascii "lower 9.99500000E-4\nupper 1.00000000E-3\ncut 0\ndeaths 1\ncuts 0\nsteps 1\n"
+  -- "On model A, .., it prints", and document 02, Item 2: "Model A prints `exact 11`."
+  pub text-A : printed bytes-A ≡ ascii "lower 9.99500000E-4\nupper 1.00000000E-3\ncut 0\ndeaths 1\ncuts 0\nsteps 1\nexact 11\n"
   -- model F
   pub text-F : printed [] ≡ ascii "refused 3 at 0\n"
   -- the second word of model A, and one byte of a third

@@ -10,7 +10,7 @@ use Rattle.figure.specs.declared.Figure.{Figure}
 use Rattle.figure.specs.Rounding.{IsFigure}
 use Rattle.tree.specs.Report.{answer}
 use Rattle.text.specs.Bytes.{words-of, most-bytes}
-use Rattle.text.specs.Text.{decimal, signed-decimal, figure-text, answer-text}
+use Rattle.text.specs.Text.{decimal, signed-decimal, figure-text, text-of}
 use Rattle.text.specs.Program.{report-budget, printed}
 use Rattle.text.specs.Example.{AsDocumented}
 
@@ -43,9 +43,9 @@ FigureDigits = (f : Figure) → IsFigure 9 f → (f .digits ≡ 0 → ⊥) → N
 abbrev pub AnswerEnough : Type 0
 AnswerEnough = (bytes : List ℕ) (budget : ℕ) → answer (words-of bytes) budget ≡ answer (words-of (take most-bytes bytes)) budget
 
--- the program prints the text of the answer to a caller who lends no row
+-- the program prints the text of the answer that is given without rows
 abbrev pub PrintsNoRow : Type 0
-PrintsNoRow = (bytes : List ℕ) → printed bytes ≡ answer-text (answer (words-of bytes) report-budget)
+PrintsNoRow = (bytes : List ℕ) → printed bytes ≡ text-of (words-of bytes) report-budget (answer (words-of bytes) report-budget)
 
 -- What the report program's text promises beside the equation with its definition.
 pub record FaithfulText : Type 0 where

@@ -1,5 +1,6 @@
 pub mod Bytes
 pub mod Text
+pub mod Rules
 pub mod Written
 pub mod Program
 pub mod Example

@@ -1,14 +1,15 @@
--- Document 01, "The report program": the text that it prints, as a list of ASCII bytes. Assumes nothing: these are definitions.
+-- Document 01, "The report program", and document 02, Item 2: the text that it prints, as a list of ASCII bytes. Assumes nothing: these are definitions.
 use Prim.Native.Nat.{ℕ, zero, suc, _+_, _/_, _%_}
 use Prim.Native.Char.{code}
 use Prim.Native.String.{String, [] as empty, _∷_ as _then_}
-use mathlib.Core.Bool.{true, false}
+use mathlib.Core.Bool.{Bool, true, false}
 use mathlib.Core.List.{List, [], _∷_, _++_}
 use lib.Dec.{ltb, eqb}
 use lib.IntN.{ℤ, pos, negsuc, _+ℤ_}
 use Rattle.figure.specs.declared.Figure.{Figure}
 use Rattle.word.specs.Answer.{Answer, refused, granted}
 use Rattle.tree.specs.Report.{Report}
+use Rattle.tree.specs.Marks.{Marks, marks-with}
 
 -- the numbers of a text's characters, which for those of ASCII are its bytes
 abbrev pub ascii : String → List ℕ
@@ -60,7 +61,20 @@ count-lines deaths cuts steps = line (ascii "deaths ") (decimal deaths) ++ (line
 abbrev pub refusal-text : ℕ → ℕ → List ℕ
 refusal-text number place = decimal number ++ (ascii " at " ++ decimal place)
 
--- a report's six lines, or "`refused NUMBER at PLACE`"
-unfoldable pub answer-text : Answer Report → List ℕ
-answer-text (refused number place) = line (ascii "refused ") (refusal-text number place)
-answer-text (granted r) = figure-lines (r .lower) (r .upper) (r .cut) ++ count-lines (r .deaths) (r .cuts) (r .steps)
+-- "The report gains, after steps, a line `exact` followed by two digits, lower then upper, 1 if .. and 0 otherwise"
+abbrev pub mark-digit : Bool → ℕ
+mark-digit true = code "1"
+mark-digit false = code "0"
+
+abbrev pub exact-line : Marks → List ℕ
+exact-line k = line (ascii "exact ") (mark-digit (k .lower) ∷ mark-digit (k .upper) ∷ [])
+
+-- a report's seven lines, or "`refused NUMBER at PLACE`"
+unfoldable pub answer-text : Answer Report → Marks → List ℕ
+answer-text (refused number place) k = line (ascii "refused ") (refusal-text number place)
+answer-text (granted r) k =
+    figure-lines (r .lower) (r .upper) (r .cut) ++ (count-lines (r .deaths) (r .cuts) (r .steps) ++ exact-line k)
+
+-- the text of an answer to a list of words and a budget, with its marks
+abbrev pub text-of : List ℕ → ℕ → Answer Report → List ℕ
+text-of ws budget a = answer-text a (marks-with ws budget a)

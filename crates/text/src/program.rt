@@ -9,10 +9,10 @@ use tree::Row;
 ghost use mathlib.Core.Path.{_≡_};
 ghost use lib.ListN.{length};
 ghost use Rattle.tree.specs.Rows.{answer-with-rows};
-ghost use Rattle.accuracy.specs.Rule.{AccuracyRule};
 ghost use Rattle.text.specs.Bytes.{words-of, most-bytes};
 ghost use Rattle.text.specs.Written.{Holds};
 ghost use Rattle.text.specs.Program.{report-budget, report-rows, printed, LendsRows};
+ghost use Rattle.text.specs.Rules.{Rules};
 ghost use Rattle.text.specs.Faithful.{FaithfulText};
 
 // A buffer for standard input; what it holds is free. A read that fills it can stop: `AnswerEnough` of `FaithfulText`.
@@ -47,7 +47,7 @@ fn lending_rows(words: &[u32], budget: u64) -> Answer
 // The text that the report program prints for these bytes. The lent bytes are unchanged.
 pub fn report(bytes: &[u8]) -> Text
     ensures { λ r. ⌜ Holds (printed (now (bytes .entry))) r ⌝ }
-    ensures { λ _. ⌜ AccuracyRule (words-of (now (bytes .entry))) report-budget (answer-with-rows (words-of (now (bytes .entry))) report-budget report-rows) ⌝ }
+    ensures { λ _. ⌜ Rules (words-of (now (bytes .entry))) report-budget (answer-with-rows (words-of (now (bytes .entry))) report-budget report-rows) ⌝ }
     ensures { λ _. ⌜ FaithfulText ⌝ }
     ensures { λ _. ⌜ now (bytes .exit) ≡ now (bytes .entry) ⌝ }
 {

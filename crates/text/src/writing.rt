@@ -6,7 +6,7 @@ ghost use mathlib.Core.Path.{_≡_};
 ghost use mathlib.Core.List.{[], _∷_};
 ghost use lib.IntN.{pos, natAbs, _+ℤ_};
 ghost use lib.Signed.{mag};
-ghost use Rattle.text.specs.Text.{digits-within, last-digits, signed-decimal, figure-text, line, decimal, figure-lines, count-lines, refusal-text};
+ghost use Rattle.text.specs.Text.{digits-within, last-digits, signed-decimal, figure-text, line, decimal, figure-lines, count-lines, mark-digit, exact-line, refusal-text};
 ghost use Rattle.text.specs.Internal.Growing.{Room, Added};
 
 // The last decimal digit of n, in ASCII.
@@ -14,6 +14,13 @@ fn digit(n: u64) -> u8
     ensures { λ r. ⌜ r ≡ 48 + n % 10 ⌝ }
 {
     (48 + n % 10) as u8
+}
+
+// The digit of a mark, in ASCII.
+fn mark_digit(kept: bool) -> u8
+    ensures { λ r. ⌜ r ≡ mark-digit kept ⌝ }
+{
+    if kept { b'1' } else { b'0' }
 }
 
 // The exponent of a figure with this power: its point stands eight digits from the right.
@@ -147,6 +154,16 @@ impl Text {
         self.with_number_line(b"deaths ", deaths)
             .with_number_line(b"cuts ", cuts)
             .with_number_line(b"steps ", steps)
+    }
+
+    pub(crate) fn with_exact(self, lower: bool, upper: bool) -> Self
+        requires { ⌜ Room self (exact-line (record { lower = lower; upper = upper })) ⌝ }
+        ensures { λ r. ⌜ Added self (exact-line (record { lower = lower; upper = upper })) r ⌝ }
+    {
+        self.with_all(b"exact ")
+            .with(mark_digit(lower))
+            .with(mark_digit(upper))
+            .with(b'\n')
     }
 
     // "NUMBER at PLACE".

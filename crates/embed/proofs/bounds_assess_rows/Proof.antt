@@ -72,7 +72,7 @@ abbrev R : RattleType
 R = T.the-row
 
 abbrev Vs : RattleType
-Vs = Array u64 7
+Vs = Array u64 9
 
 abbrev Ps : RattleType
 Ps = Array i32 3
@@ -85,7 +85,7 @@ stayed = (
     (
       gave-slice (1 ∷ []) tt (plain (λ _. R)),
       (
-        gave-ref (2 ∷ []) tt (arrayOf (plain (λ _. u64)) 7),
+        gave-ref (2 ∷ []) tt (arrayOf (plain (λ _. u64)) 9),
         (
           gave-ref (3 ∷ []) tt (arrayOf (plain (λ _. i32)) 3),
           tt,
@@ -301,7 +301,7 @@ assess-rows-meets 𝓤 H A W at-mem run 𝓣 known-by-state known-put =
         (
           goes-gave-slice 𝓤 H A W 4 1 tt (plain (λ _. R)),
           (
-            goes-gave-ref 𝓤 H A W 4 2 tt (arrayOf (plain (λ _. u64)) 7),
+            goes-gave-ref 𝓤 H A W 4 2 tt (arrayOf (plain (λ _. u64)) 9),
             (
               goes-gave-ref 𝓤 H A W 4 3 tt (arrayOf (plain (λ _. i32)) 3),
               tt,

@@ -9,7 +9,7 @@ words-text-requires c κs = search needs
 returns : tie.Need-returns
 returns c =
     let e = c .before .words-text .ensures in
-    record { within = e .0 .within; text-is = e .0 .bytes; accuracy = e .1 .0; words-unchanged = e .1 .1 }
+    record { within = e .0 .within; text-is = e .0 .bytes; rules = e .1 .0; words-unchanged = e .1 .1 }
 
 pub bounds-text-spec : {M : Type 1} → statement M
 bounds-text-spec = tie.close (tie.spec words-text-requires returns)

@@ -25,7 +25,7 @@ returns c =
     let k = c .before .before .before .before .before in
     rw (k .a .given .1) (record {
       number-is = c .number .ensures;
-      numbers-are = ap (λ x. x ∷ 0 ∷ 0 ∷ 0 ∷ 0 ∷ 0 ∷ 0 ∷ []) (c .before .before .before .place .ensures);
+      numbers-are = ap (λ x. x ∷ 0 ∷ 0 ∷ 0 ∷ 0 ∷ 0 ∷ 0 ∷ 0 ∷ 0 ∷ []) (c .before .before .before .place .ensures);
       powers-are = refl;
     })
 

@@ -3,7 +3,7 @@ use mathlib.Core.Path.{refl, sym}
 use native.Mathlib.Omega.{arith}
 use borrow.Author.Needs.{needs}
 use lib.Seq.{length-take-le}
-use Rattle.text.proofs.Words.{answer-enough, rule-enough}
+use Rattle.text.proofs.Lending.{rules, text-enough}
 use Rattle.text.proofs.answers.answered.Statement.{statement}
 use Rattle.text.proofs.answers.answered.Tie as tie
 
@@ -27,8 +27,7 @@ returns c =
     let a = w .before .before .before .args in
     let e = w .words-of .ensures .0 .words-are in
     let t = rw e at (c .words-text .ensures .0) in
-    let h = rw e at (c .words-text .ensures .1 .0) in
-    (rw (answer-enough (a .bytes .now) (a .budget)) t, (rule-enough (a .bytes .now) (a .budget) h, refl))
+    (rw (text-enough (a .bytes .now) (a .budget)) t, (rules _ _, refl))
 
 pub answered-spec : {M : Type 1} → statement M
 answered-spec =

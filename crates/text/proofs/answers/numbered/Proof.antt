@@ -2,6 +2,7 @@
 use mathlib.Core.List.{[], _∷_}
 use borrow.Author.Needs.{needs}
 use Rattle.word.specs.Answer.{refused}
+use Rattle.tree.specs.Marks.{no-marks}
 use Rattle.text.specs.Text.{ascii, refusal-text, answer-text}
 use Rattle.text.proofs.Pieces.{RoomForThree, added-three, room-one, room-two, room-three, room-all, holds-all}
 use Rattle.text.proofs.Lengths.{answer-short}
@@ -13,7 +14,7 @@ empty-requires c κs = search needs
 
 room : (c : tie.After-empty) → let a = c .before .args in RoomForThree (c .empty .result) (ascii "refused ") (refusal-text (a .number) (a .place)) (10 ∷ [])
 unfolding answer-text
-room c = record { whole = room-all (c .empty .ensures) (answer-short (refused (c .before .args .number) (c .before .args .place))) }
+room c = record { whole = room-all (c .empty .ensures) (answer-short (refused (c .before .args .number) (c .before .args .place)) no-marks) }
 
 slice-aggregate-with-all : tie.Need-slice-aggregate-with-all
 slice-aggregate-with-all c = search needs

@@ -1,12 +1,11 @@
 -- `text::program::report` meets its contract: the budget and the number of rows are the documents', the answer to the words of the first 64,024 bytes is
 -- that to all of them, and the laws of the text are proved. Assumes nothing.
-use mathlib.Core.Path.{refl, sym, subst}
+use mathlib.Core.Path.{refl, sym}
 use native.Mathlib.Omega.{arith}
 use borrow.Author.Needs.{needs}
 use lib.Seq.{length-take-le}
-use Rattle.accuracy.specs.Rule.{AccuracyRule}
 use Rattle.text.proofs.Faithful.{faithful-text}
-use Rattle.text.proofs.Lending.{lending-enough, lending-rule}
+use Rattle.text.proofs.Lending.{row-rules, printed-enough}
 use Rattle.text.proofs.program.report.Statement.{statement}
 use Rattle.text.proofs.program.report.Tie as tie
 
@@ -34,9 +33,8 @@ returns c =
     let bytes = w .before .before .before .args .bytes .now in
     let e = w .words-of .ensures .0 .words-are in
     let p = l .lending-rows .ensures in
-    let t = rw (p .answer-is, e) at (c .answer-text .ensures) in
-    let h = rw e at (subst (AccuracyRule _ _) (p .answer-is) (p .accuracy)) in
-    (rw (lending-enough bytes 1000000) t, (lending-rule bytes 1000000 h, (faithful-text, refl)))
+    let t = rw (p .answer-is, p .marks-are, e) at (c .answer-text .ensures) in
+    (rw (printed-enough bytes 1000000) t, (row-rules _ _, (faithful-text, refl)))
 
 pub report-spec : {M : Type 1} → statement M
 report-spec =
