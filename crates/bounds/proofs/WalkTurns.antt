@@ -1,7 +1,7 @@
 -- One turn of the walk's loop: the exit is read, the path through it judged and noted, and walked beyond if it is continued. Assumes nothing.
 use Prim.Native.Nat.{ℕ, _+_, _-_, _^_, _≤_, _<_}
 use mathlib.Core.Path.{_≡_, refl, sym, ap, ap₂, _∙_, subst}
-use mathlib.Core.Bool.{true, false, _&&_}
+use mathlib.Core.Bool.{Bool, true, false, _&&_}
 use mathlib.Core.List.{List, _∷_}
 use native.Mathlib.Omega.{arith}
 use native.Mathlib.Nat.{le-trans}
@@ -248,9 +248,11 @@ module _ {l : Lent} {a : Asked} {h : Held} {x : Exit} (w : Turn l a h x) where
     }
       where
         -- the lower does not rest on a cut
-        kept-lower : _≡_ {A = Marks} (record { lower = marks-in (h .rows) .lower && true; upper = marks-in (h .rows) .upper && upper-asked net (path-there l a h x) (x .tip .upper) 1006 (h .rows) })
-            (record { lower = marks-in (h .rows) .lower; upper = marks-in (h .rows) .upper && upper-asked net (path-there l a h x) (x .tip .upper) 1006 (h .rows) })
-        kept-lower = λ i. record { lower = and-true (marks-in (h .rows) .lower) i; upper = marks-in (h .rows) .upper && upper-asked net (path-there l a h x) (x .tip .upper) 1006 (h .rows) }
+        with-lower : Bool → Marks
+        with-lower b = record { lower = b; upper = marks-in (h .rows) .upper && upper-asked net (path-there l a h x) (x .tip .upper) 1006 (h .rows) }
+
+        kept-lower : with-lower (marks-in (h .rows) .lower && true) ≡ with-lower (marks-in (h .rows) .lower)
+        kept-lower = ap with-lower (and-true (marks-in (h .rows) .lower))
 
         same : totals-of after rows ≡ with-cut (totals-of (h .made) (h .rows)) (x .tip .upper)
         same = rw more (λ i. record {

@@ -8,8 +8,8 @@ ghost use Rattle.tree.specs.Marks.{lower-kept, upper-kept};
 ghost use Rattle.tables.specs.Internal.Described.{net-of};
 ghost use Rattle.path.specs.Internal.Lent.{lent};
 ghost use Rattle.path.specs.Internal.Deaths.{LastStep};
-ghost use Rattle.rows.specs.Internal.Table.{MarkNoted, TableGathered};
-ghost use Rattle.bounds.specs.Internal.Marks.{UpperPlace, path-with, lower-asked, upper-asked, asked-marks, Marked};
+ghost use Rattle.rows.specs.Internal.Table.{TableGathered};
+ghost use Rattle.bounds.specs.Internal.Marks.{UpperPlace, path-with, LowerNoted, UpperNoted, EndedNoted};
 use figure::Figure;
 use model::index::Index;
 use path::exits::Exit;
@@ -81,7 +81,7 @@ fn mark_lower(
 )
     requires { ⌜ LastStep (lent (now words) (now index) (now table)) time path tip exit ⌝ }
     requires { ⌜ TableGathered 999999 (now rows) × Sized 9 35000 lower ⌝ }
-    ensures { λ _. ⌜ MarkNoted 1008 (lower-asked (net-of (now (words .entry))) (path-with (net-of (now (words .entry))) path tip exit) lower (now (rows .entry))) (now (rows .entry)) (now (rows .exit)) ⌝ }
+    ensures { λ _. ⌜ LowerNoted (net-of (now (words .entry))) path tip exit lower (now (rows .entry)) (now (rows .exit)) ⌝ }
 {
     if is_kept(rows, 1008) {
         let total = total_at(rows, 1002);
@@ -104,7 +104,7 @@ fn mark_upper(
 )
     requires { ⌜ LastStep (lent (now words) (now index) (now table)) time path tip exit ⌝ }
     requires { ⌜ TableGathered 999999 (now rows) × Sized 9 35000 (exit .tip .upper) × UpperPlace at ⌝ }
-    ensures { λ _. ⌜ MarkNoted 1009 (upper-asked (net-of (now (words .entry))) (path-with (net-of (now (words .entry))) path tip exit) (exit .tip .upper) at (now (rows .entry))) (now (rows .entry)) (now (rows .exit)) ⌝ }
+    ensures { λ _. ⌜ UpperNoted (net-of (now (words .entry))) path tip exit at (now (rows .entry)) (now (rows .exit)) ⌝ }
 {
     if is_kept(rows, 1009) {
         let total = total_at(rows, at);
@@ -131,7 +131,7 @@ pub(crate) fn mark_ended(
 )
     requires { ⌜ LastStep (lent (now words) (now index) (now table)) time path tip exit ⌝ }
     requires { ⌜ TableGathered 999999 (now rows) × Sized 9 35000 lower × Sized 9 35000 (exit .tip .upper) ⌝ }
-    ensures { λ _. ⌜ Marked (asked-marks dead (net-of (now (words .entry))) (path-with (net-of (now (words .entry))) path tip exit) lower (exit .tip .upper) (now (rows .entry))) (now (rows .entry)) (now (rows .exit)) ⌝ }
+    ensures { λ _. ⌜ EndedNoted dead (net-of (now (words .entry))) path tip exit lower (now (rows .entry)) (now (rows .exit)) ⌝ }
 {
     if dead {
         mark_upper(words, index, table, time, path, tip, exit, 1004, rows);

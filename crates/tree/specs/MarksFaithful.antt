@@ -3,25 +3,25 @@
 -- statements.
 use Prim.Native.Nat.{ℕ}
 use mathlib.Core.Path.{_≡_}
-use mathlib.Core.Bool.{true}
+use mathlib.Core.Bool.{true, false}
 use mathlib.Core.List.{List, []}
 use Rattle.word.specs.Model.{Net}
 use Rattle.word.specs.Answer.{Answer}
 use Rattle.tree.specs.Tree.{Visit, deaths, cuts}
 use Rattle.tree.specs.Report.{answer}
 use Rattle.tree.specs.Rows.{answer-with-rows}
-use Rattle.tree.specs.Marks.{marks-on, no-marks, marks-with}
+use Rattle.tree.specs.Marks.{marks-on, marks-with}
 use Rattle.tree.specs.MarksPinned.{MarkCasesAgree}
 
 -- in a refusal both digits are 0, whatever its number and place;
 abbrev pub RefusedMarks : Type 0
 RefusedMarks = (ws : List ℕ) (budget number place : ℕ) → answer ws budget ≡ Answer.refused number place
-    → marks-with ws budget (answer ws budget) ≡ no-marks
+    → marks-with ws budget (answer ws budget) ≡ record { lower = false; upper = false }
 
 -- so too for a caller who lends rows, of refusal 14 as of the others
 abbrev pub RefusedRowMarks : Type 0
 RefusedRowMarks = (ws : List ℕ) (budget lent number place : ℕ) → answer-with-rows ws budget lent ≡ Answer.refused number place
-    → marks-with ws budget (answer-with-rows ws budget lent) ≡ no-marks
+    → marks-with ws budget (answer-with-rows ws budget lent) ≡ record { lower = false; upper = false }
 
 -- visits without a death path have the lower 0, which no operation lost anything of
 abbrev pub NoDeathKeeps : Type 0

@@ -12,7 +12,7 @@ use Rattle.tree.specs.Marks.{Marks, lower-kept, upper-kept}
 use Rattle.path.specs.declared.exits.Tip.{Tip}
 use Rattle.path.specs.declared.exits.Exit.{Exit}
 use Rattle.path.specs.Internal.Paths.{path-of}
-use Rattle.rows.specs.Internal.Table.{total-in, totals-in, marks-in, NamesKept}
+use Rattle.rows.specs.Internal.Table.{total-in, totals-in, marks-in, MarkNoted, NamesKept}
 
 -- the path up to the tip, with the exit
 abbrev pub path-with : Net → List ℕ → Tip → Exit → Path
@@ -36,9 +36,22 @@ abbrev pub asked-marks : (dead : Bool) → Net → Path → (l u : Figure) → L
 asked-marks true net p l u table = record { lower = lower-asked net p l table; upper = upper-asked net p u 1004 table }
 asked-marks false net p l u table = record { lower = true; upper = upper-asked net p u 1006 table }
 
+-- the path through an exit was noted in the lower's mark, of its lower l, or in the upper's, against the total at a place
+
+abbrev pub LowerNoted : Net → List ℕ → Tip → Exit → Figure → (before after : List ℕ) → Type 0
+LowerNoted net path tip exit l before after = MarkNoted 1008 (lower-asked net (path-with net path tip exit) l before) before after
+
+abbrev pub UpperNoted : Net → List ℕ → Tip → Exit → ℕ → (before after : List ℕ) → Type 0
+UpperNoted net path tip exit at before after =
+    MarkNoted 1009 (upper-asked net (path-with net path tip exit) (exit .tip .upper) at before) before after
+
 -- both marks with what was asked, and no total changed
 pub record Marked (k : Marks) (before after : List ℕ) : Type 0 where
   pub marks-are : marks-in after ≡ record { lower = marks-in before .lower && k .lower; upper = marks-in before .upper && k .upper }
   pub totals-same : (p : ℕ) → p + 1 < 1008 → total-in after p ≡ total-in before p
   pub rows-same : totals-in after ≡ totals-in before
   pub names-kept : NamesKept before after
+
+-- the path through an exit was noted as a death, of the lower l, or as a cut
+abbrev pub EndedNoted : (dead : Bool) → Net → List ℕ → Tip → Exit → Figure → (before after : List ℕ) → Type 0
+EndedNoted dead net path tip exit l before after = Marked (asked-marks dead net (path-with net path tip exit) l (exit .tip .upper) before) before after
