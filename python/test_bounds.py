@@ -70,6 +70,18 @@ class Calls(unittest.TestCase):
             with self.assertRaises(ValueError):
                 self.library.assess_rows(MODEL_A, lent=lent)
 
+    def test_marks(self):
+        """Each mark stands in its own place, and only 0 and 1 are marks."""
+        numbers = [0, 999500000, 100000000, 0, 1, 0, 1]
+        for lower in (0, 1):
+            for upper in (0, 1):
+                report = bounds._report(0, [*numbers, lower, upper], [-12, -11, 0])
+                self.assertEqual((report.lower_exact, report.upper_exact), (lower == 1, upper == 1))
+                self.assertTrue(str(report).endswith(f"steps 1\nexact {lower}{upper}\n"))
+        for marks in ((0, 2), (2, 0), (1, 256), (2**32 + 1, 1), (2**64 - 1, 0)):
+            with self.assertRaises(bounds.Error):
+                bounds._report(0, [*numbers, *marks], [-12, -11, 0])
+
     def test_refusals(self):
         with self.assertRaises(bounds.Refused) as raised:
             self.library.assess(MODEL_A[:6])

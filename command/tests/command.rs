@@ -7,7 +7,7 @@ use std::process::{Command, Output, Stdio};
 type Tested = Result<(), Box<dyn Error>>;
 
 const REPORT_A: &str =
-    "lower 9.99500000E-4\nupper 1.00000000E-3\ncut 0\ndeaths 1\ncuts 0\nsteps 1\n";
+    "lower 9.99500000E-4\nupper 1.00000000E-3\ncut 0\ndeaths 1\ncuts 0\nsteps 1\nexact 11\n";
 const DIGITS_A: &str = "11002001 2000000A 30000000 41801000 50001002 60400001 F0000000";
 
 /// Runs the command in the root of the repository.
@@ -40,6 +40,8 @@ fn reports() -> Tested {
     let (status, out, _) = said(&["report", "-", "--json"], DIGITS_A)?;
     assert_eq!(status, 0);
     assert!(out.starts_with("{\"answer\": \"report\", \"lower\": \"9.99500000E-4\", "), "{out}");
+    let marks = "\"steps\": 1, \"lower_exact\": true, \"upper_exact\": true}\n";
+    assert!(out.ends_with(marks), "{out}");
     Ok(())
 }
 

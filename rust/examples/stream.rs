@@ -79,17 +79,17 @@ fn shown(Figure { digits, power }: Figure) -> String {
 }
 
 /// What the numbers say, all of them: two answers that differ in one print otherwise.
-fn text_of(number: u64, values: [u64; 7], powers: [i32; 3]) -> String {
-    let [place, lower, upper, cut, deaths, cuts, steps] = values;
+fn text_of(number: u64, values: [u64; 9], powers: [i32; 3]) -> String {
+    let [place, lower, upper, cut, deaths, cuts, steps, lower_exact, upper_exact] = values;
     let figure = |digits, at: usize| shown(Figure { digits, power: powers[at] });
     match number {
         0 if place == 0 => format!(
-            "lower {}\nupper {}\ncut {}\ndeaths {deaths}\ncuts {cuts}\nsteps {steps}\n",
+            "lower {}\nupper {}\ncut {}\ndeaths {deaths}\ncuts {cuts}\nsteps {steps}\nexact {lower_exact}{upper_exact}\n",
             figure(lower, 0),
             figure(upper, 1),
             figure(cut, 2)
         ),
-        1.. if values[1..] == [0; 6] && powers == [0; 3] => {
+        1.. if values[1..] == [0; 8] && powers == [0; 3] => {
             format!("refused {number} at {place}\n")
         }
         _ => format!("{number} with {values:?} and {powers:?}\n"),
@@ -113,7 +113,7 @@ fn text_of_rows(rows: &[Row]) -> String {
 /// a comparison tries all.
 fn answer(Record { budget, rows: row_count, words }: &Record) -> String {
     let mut rows: Vec<Row> = (0..row_count + BEHIND).map(lent).collect();
-    let (mut values, mut powers) = ([7; 7], [7; 3]);
+    let (mut values, mut powers) = ([7; 9], [7; 3]);
     // SAFETY: each pointer and its length belong together, both arrays have the lengths that the header states, and none overlaps another.
     let number = unsafe {
         bounds_assess_rows(
