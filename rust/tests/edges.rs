@@ -11,7 +11,8 @@ use bounds::{
 const MODEL_A: [u32; 7] =
     [0x11002001, 0x2000000A, 0x30000000, 0x41801000, 0x50001002, 0x60400001, 0xF0000000];
 
-const REPORT_A: &str = "lower 9.99500000E-4\nupper 1.00000000E-3\ncut 0\ndeaths 1\ncuts 0\nsteps 1\nexact 11";
+const REPORT_A: &str =
+    "lower 9.99500000E-4\nupper 1.00000000E-3\ncut 0\ndeaths 1\ncuts 0\nsteps 1\nexact 11";
 
 #[test]
 fn model_a() -> Result<(), NoReport> {
