@@ -194,6 +194,7 @@ fn check_accuracy(
         })?;
     }
     tally.accurate += 1;
+    tally.count_exact(report);
     tally.accurate_rows += expected.rows.len() as u64;
     tally.exact_paths += paths;
     Ok(())
@@ -213,7 +214,7 @@ fn describe(options: &Options, trouble: &Trouble) {
             println!("independent implementation:\n{expected}\nthe other program:\n{found}");
         }
         Trouble::Inaccurate { number, answer, breach } => {
-            println!("accuracy rule broken: {breach}");
+            println!("accuracy rule or digit broken: {breach}");
             describe_model(options, *number);
             println!("answer:\n{answer}");
         }
