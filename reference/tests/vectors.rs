@@ -102,7 +102,7 @@ fn check_file(path: &Path) -> Result<usize, Box<dyn Error>> {
 #[test]
 fn expected_answers() -> Result<(), Box<dyn Error>> {
     let data = Path::new(env!("CARGO_MANIFEST_DIR")).join("tests/data");
-    assert_eq!(check_file(&data.join("models.txt"))?, 417);
+    assert_eq!(check_file(&data.join("models.txt"))?, 710);
     assert_eq!(check_file(&data.join("papers.txt"))?, 98);
     assert_eq!(check_file(&data.join("rows.txt"))?, 60);
     if let Some(paths) = std::env::var_os("VECTORS") {

@@ -4,6 +4,7 @@ mod cases;
 mod damage;
 mod draft;
 mod edges;
+mod lossless;
 mod options;
 mod quantities;
 mod random;

@@ -106,10 +106,7 @@ impl fmt::Display for Tally {
         writeln!(out, "steps in the reports: {}", self.steps)?;
         writeln!(out, "reports with a lower figure above zero: {}", self.lower_above_zero)?;
         let [none, upper, lower, both] = self.digits;
-        writeln!(
-            out,
-            "digits: {none} times 00, {upper} times 01, {lower} times 10, {both} times 11"
-        )?;
+        writeln!(out, "digits 00, 01, 10, 11: {none} {upper} {lower} {both}")?;
         let (reports, filled, deathless) = (self.with_rows, self.filled, self.deathless);
         writeln!(out, "rows filled: {filled} in {reports} reports, {deathless} without a death")?;
         writeln!(out, "rows of zeros on refusal 13: {} answers", self.thirteen_with_rows)?;
@@ -119,11 +116,8 @@ impl fmt::Display for Tally {
             writeln!(out, "accuracy rule held on {checked} reports of {paths} ended paths")?;
             writeln!(out, "and on {} rows of them", self.accurate_rows)?;
             let [lower, above, upper] = self.exact_digits;
-            writeln!(
-                out,
-                "digits 1 beside the exact sum: {lower} lower, {above} of them above zero"
-            )?;
-            writeln!(out, "and {upper} upper")?;
+            write!(out, "exact sums by a digit of one: {upper} uppers and ")?;
+            writeln!(out, "{lower} lowers, {above} of these above zero")?;
             writeln!(out, "reports of too many paths to check: {}", self.too_many_paths)?;
         }
         Ok(())
