@@ -39,7 +39,7 @@ class Calls(unittest.TestCase):
                 self.assertEqual(answered(self.library, words, int(budget)), expected, name)
                 self.assertEqual(self.library.text(words, int(budget)), expected, name)
                 seen += 1
-        self.assertEqual(seen, 515)
+        self.assertEqual(seen, 808)
 
     def test_expected_rows(self):
         """A line is a name, a budget, the number of rows lent, words and the answer, which ends in the rows that are filled."""
