@@ -48,7 +48,7 @@ fn lengthened(random: &mut Random, of: Quantity) -> Quantity {
 }
 
 /// Lengthens the mission time, a rate, a mean or a deviation.
-fn one_long_quantity(random: &mut Random, draft: &mut Draft) {
+pub fn one_long_quantity(random: &mut Random, draft: &mut Draft) {
     let place = random.size(0, draft.transitions.len());
     let Some(transition) = draft.transitions.get_mut(place) else {
         draft.time = lengthened(random, draft.time);

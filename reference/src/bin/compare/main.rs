@@ -10,6 +10,7 @@ mod quantities;
 mod random;
 mod shapes;
 mod tally;
+mod varied;
 
 use cases::{case, Case};
 use options::Options;
