@@ -81,8 +81,8 @@ impl<'a> Totals<'a> {
                 row.lower = totals.lower.narrowed(Up).value; // planted
             }
             if planted(Fault::RowUpperWithCuts) {
-                row.upper = totals.upper.plus(self.cut_upper, Up).narrowed(Up).value;
-                // planted
+                let both = totals.upper.plus(self.cut_upper, Up); // planted
+                row.upper = both.narrowed(Up).value; // planted
             }
             row
         };

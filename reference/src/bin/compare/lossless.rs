@@ -66,7 +66,7 @@ pub fn one_long_quantity(random: &mut Random, draft: &mut Draft) {
 type Edge = fn(&mut Random) -> Draft;
 
 /// Models in which a certain operation alone loses something.
-const EDGES: [Edge; 8] = [
+const EDGES: [Edge; 10] = [
     time_alone,
     grains_squared_alone,
     time_square_alone,
@@ -75,6 +75,8 @@ const EDGES: [Edge; 8] = [
     hold_alone,
     product_of_zero,
     full_grains,
+    fast_sum_alone,
+    slow_sum_alone,
 ];
 
 /// One operation alone loses something, or with a long quantity some more do.
@@ -180,6 +182,28 @@ fn product_of_zero(random: &mut Random) -> Draft {
         draft.slow(from, from + 1, quantity(random.pick(&[1, 2, 5, 7]), random.word(1, 3)));
     }
     draft.slow(5, 1, quantity(1, 3));
+    draft
+}
+
+/// y of class 2: 0.2, 0.5 or 0.8 and a sum of some 10^-10. The slow exit is cut.
+fn fast_sum_alone(random: &mut Random) -> Draft {
+    let mut draft = Draft::new(3, quantity(100_000, 0));
+    draft.step_limit = 1;
+    draft.slow(1, 3, quantity(random.pick(&[200_000, 500_000, 800_000]), 0));
+    draft.fast(1, 2, [quantity(1, 6), quantity(0, 0), one()]);
+    draft.slow(3, 1, one());
+    draft
+}
+
+/// y of class 3: n is 2, and of both terms, of seven digits each, the second is 200,000 times
+/// smaller; h' is about three times y. The fast exit is cut.
+fn slow_sum_alone(random: &mut Random) -> Draft {
+    let mut draft = Draft::new(3, quantity(400_000, 0));
+    draft.step_limit = 1;
+    draft.slow(1, 2, quantity(500_000, 0));
+    let mean = quantity(random.word(1_001, 1_600), 9);
+    draft.fast(1, 3, [mean, quantity(0, 0), one()]);
+    draft.slow(3, 1, one());
     draft
 }
 
