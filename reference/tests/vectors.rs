@@ -70,7 +70,8 @@ fn between<'a>(line: &'a str, open: &str, close: &str) -> Result<&'a str, Box<dy
 }
 
 fn json(line: &str) -> Result<Vector, Box<dyn Error>> {
-    let rows = between(line, "\"rows\": ", ",").ok().map(str::parse).transpose()?;
+    let (inputs, _) = line.split_once("\"expect\": ").ok_or("no answer is expected")?;
+    let rows = between(inputs, "\"rows\": ", ",").ok().map(str::parse).transpose()?;
     let mark = if rows.is_some() { "\"text\": \"" } else { "\"expect\": \"" };
     let mut expected = between(line, mark, "\"")?.replace("\\n", "\n");
     if rows.is_some() {
