@@ -112,7 +112,7 @@ mod tests {
 
     #[test]
     fn expected_answers() -> Result<(), Box<dyn Error>> {
-        assert!(check_file("models.txt")? + check_file("papers.txt")? > 500);
+        assert!(check_file("models.txt")? + check_file("papers.txt")? > 800);
         assert_eq!(check_file("rows.txt")?, 60);
         Ok(())
     }
