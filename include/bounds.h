@@ -36,7 +36,7 @@ extern "C" {
 
 /* ---- The version: major * 1,000,000 + minor * 1,000 + patch. CHANGELOG.md says what each brought. */
 
-#define BOUNDS_VERSION 1002000
+#define BOUNDS_VERSION 1003000
 #define BOUNDS_MAJOR(version) ((int)((version) / 1000000))
 #define BOUNDS_MINOR(version) ((int)((version) / 1000 % 1000))
 #define BOUNDS_PATCH(version) ((int)((version) % 1000))
@@ -90,7 +90,8 @@ enum bounds_refusal {
  *
  * A figure is digits times ten to a power: 999500000 and -12 are 9.99500000E-4. It is zero (digits 0, power 0), or its digits are a whole number
  * from 100,000,000 to 999,999,999. The upper figure is never below the exact upper sum and the lower figure never above the exact lower sum;
- * how near they are, the accuracy rule of document 01 says.
+ * how near they are, the accuracy rule of document 01 says. Beside each of the two stands a mark: 1 says that the figure is that sum itself, 0 says
+ * nothing, and a figure beside a 0 may still equal its sum.
  */
 typedef struct {
     uint64_t digits;
@@ -122,6 +123,8 @@ enum bounds_value {
     BOUNDS_DEATHS,
     BOUNDS_CUTS,
     BOUNDS_STEPS,
+    BOUNDS_LOWER_EXACT, /* 1 where no rounding that lower rests on lost anything: lower equals its exact sum. 0 claims nothing */
+    BOUNDS_UPPER_EXACT, /* the same of upper */
     BOUNDS_VALUES /* how many there are */
 };
 
@@ -157,7 +160,7 @@ uint64_t bounds_assess_rows(const uint32_t *words, size_t count, uint64_t budget
                             int32_t powers[BOUNDS_POWERS]);
 
 /*
- * The answer of bounds_assess as the report program prints it: six lines for a report, one for a refusal, each ended by a newline, in ASCII.
+ * The answer of bounds_assess as the report program prints it: seven lines for a report, one for a refusal, each ended by a newline, in ASCII.
  * Returns their length, at most BOUNDS_TEXT_SIZE; they are the first bytes of `text`, with no zero byte behind them: what the rest of `text` then
  * holds is free. A refusal has its line there.
  */
@@ -207,9 +210,11 @@ typedef struct {
     uint64_t deaths;
     uint64_t cuts;
     uint64_t steps;
+    int lower_exact; /* 1: lower equals its exact sum. Else 0, which claims nothing; 0 in a refusal */
+    int upper_exact;
 } bounds_answer;
 
-/* The numbers that the library wrote, by name. */
+/* The numbers that the library wrote, by name. A mark that is not 1 claims nothing, whatever it is. */
 static inline bounds_answer bounds_answer_of(uint64_t refusal, const uint64_t values[BOUNDS_VALUES], const int32_t powers[BOUNDS_POWERS])
 {
     bounds_answer answer;
@@ -224,6 +229,8 @@ static inline bounds_answer bounds_answer_of(uint64_t refusal, const uint64_t va
     answer.deaths = values[BOUNDS_DEATHS];
     answer.cuts = values[BOUNDS_CUTS];
     answer.steps = values[BOUNDS_STEPS];
+    answer.lower_exact = values[BOUNDS_LOWER_EXACT] == 1;
+    answer.upper_exact = values[BOUNDS_UPPER_EXACT] == 1;
     return answer;
 }
 

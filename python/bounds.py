@@ -7,6 +7,8 @@
     9.99500000E-4 1.00000000E-3
     >>> library.at_or_below(report.upper, bounds.Figure.parse("1E-3"))
     True
+    >>> report.lower_exact, report.upper_exact  # no rounding lost anything; False would claim nothing
+    (True, True)
     >>> report, rows = library.assess_rows([0x11002001, 0x2000000A, 0x30000000, 0x41801000, 0x50001002, 0x60400001, 0xF0000000])
     >>> [(row.state, str(row.upper)) for row in rows]
     [(2, '1.00000000E-3')]
@@ -27,7 +29,7 @@ from fractions import Fraction
 from pathlib import Path
 from typing import NamedTuple
 
-VERSION = 1002000  # major * 1,000,000 + minor * 1,000 + patch, as BOUNDS_VERSION in include/bounds.h
+VERSION = 1003000  # major * 1,000,000 + minor * 1,000 + patch, as BOUNDS_VERSION in include/bounds.h
 MOST_WORDS = 16005
 MOST_BUDGET = 1000000
 MOST_ROWS = 1000
@@ -152,7 +154,8 @@ class Figure:
 
 @dataclass(frozen=True)
 class Report:
-    """What is reported on a model that was not refused; str is the report program's six lines."""
+    """What is reported on a model that was not refused; str is the report program's seven lines. Where lower_exact is True, no rounding that lower
+    rests on lost anything: it equals its exact sum. False claims nothing: the two may still be equal. upper_exact likewise."""
 
     lower: Figure
     upper: Figure
@@ -160,9 +163,12 @@ class Report:
     deaths: int
     cuts: int
     steps: int
+    lower_exact: bool
+    upper_exact: bool
 
     def __str__(self):
-        return "".join(f"{name} {value}\n" for name, value in vars(self).items())
+        lines = "".join(f"{name} {getattr(self, name)}\n" for name in ("lower", "upper", "cut", "deaths", "cuts", "steps"))
+        return f"{lines}exact {self.lower_exact:d}{self.upper_exact:d}\n"
 
 
 class Row(NamedTuple):
@@ -186,7 +192,7 @@ class _LentRow(ctypes.Structure):
 class Library:
     """The shared library. It keeps no state: any number of threads may call at once."""
 
-    _VALUES, _POWERS = 7, 3
+    _VALUES, _POWERS = 9, 3
     _CALLS = {
         "bounds_version": (ctypes.c_uint64, []),
         "bounds_assess": (ctypes.c_uint64, [ctypes.c_void_p, ctypes.c_size_t, ctypes.c_uint64, ctypes.c_void_p, ctypes.c_void_p]),
@@ -260,13 +266,15 @@ class Library:
 
 def _report(number, values, powers):
     """What the library's numbers say. Only 0 is a report."""
-    place, lower, upper, cut, deaths, cuts, steps = values
+    place, lower, upper, cut, deaths, cuts, steps, *marks = values
     if number in SENTENCES:
         raise Refused(number, place)
     if number != 0:
         raise UnknownRefusal(number, place)
     figures = [Figure(digits, power) for digits, power in zip((lower, upper, cut), powers)]
-    return Report(*figures, deaths, cuts, steps)
+    if any(mark not in (0, 1) for mark in marks):
+        raise Error(f"the library answered with a mark that is neither 0 nor 1: {marks}")
+    return Report(*figures, deaths, cuts, steps, *(mark == 1 for mark in marks))
 
 
 def _filled(number, rows):

@@ -39,7 +39,7 @@ class Calls(unittest.TestCase):
                 self.assertEqual(answered(self.library, words, int(budget)), expected, name)
                 self.assertEqual(self.library.text(words, int(budget)), expected, name)
                 seen += 1
-        self.assertEqual(seen, 515)
+        self.assertEqual(seen, 808)
 
     def test_expected_rows(self):
         """A line is a name, a budget, the number of rows lent, words and the answer, which ends in the rows that are filled."""
@@ -69,6 +69,18 @@ class Calls(unittest.TestCase):
         for lent in (-1, 2**64, 1.5, "1", None):
             with self.assertRaises(ValueError):
                 self.library.assess_rows(MODEL_A, lent=lent)
+
+    def test_marks(self):
+        """Each mark stands in its own place, and only 0 and 1 are marks."""
+        numbers = [0, 999500000, 100000000, 0, 1, 0, 1]
+        for lower in (0, 1):
+            for upper in (0, 1):
+                report = bounds._report(0, [*numbers, lower, upper], [-12, -11, 0])
+                self.assertEqual((report.lower_exact, report.upper_exact), (lower == 1, upper == 1))
+                self.assertTrue(str(report).endswith(f"steps 1\nexact {lower}{upper}\n"))
+        for marks in ((0, 2), (2, 0), (1, 256), (2**32 + 1, 1), (2**64 - 1, 0)):
+            with self.assertRaises(bounds.Error):
+                bounds._report(0, [*numbers, *marks], [-12, -11, 0])
 
     def test_refusals(self):
         with self.assertRaises(bounds.Refused) as raised:

@@ -1,19 +1,44 @@
 #!/bin/sh
 # Turns each rounding of steps.rs, walk.rs and bounds.rs the other way, one at a time, in a copy of
-# the sources, and shows which model betrays it. Takes some minutes.
-# Usage: ./roundings.sh [SEED [COUNT]]
+# the sources, and shows which model betrays it. With --marks each of them rounds as it should but
+# tells that nothing was lost. Takes some minutes.
+# Usage: ./roundings.sh [--marks] [SEED [COUNT]]
 set -u
 cd "$(dirname "$0")" || exit 2
 cargo build --release --offline --quiet || exit 2
+how=turned
+if [ "${1:-}" = --marks ]; then
+    how=silent
+    shift
+fi
 seed=${1:-1}
 count=${2:-100000}
 copy=$(mktemp -d) || exit 2
 trap 'rm -rf "$copy"' EXIT
 cp -r Cargo.toml src "$copy"
+if [ "$how" = silent ]; then
+    sed -i 's/kept: self.kept && kept/kept: (crate::faults::silent() || self.kept) \&\& kept/' \
+        "$copy/src/marked.rs"
+    cat >>"$copy/src/faults.rs" <<'END'
+thread_local! {
+    static SILENT: Cell<bool> = const { Cell::new(false) };
+}
 
-# Prints the file with the n-th rounding turned, and the line that holds it on standard error.
+/// The operation that is handed this side tells of no loss.
+pub fn silenced(side: crate::figure::Side) -> crate::figure::Side {
+    SILENT.with(|cell| cell.set(true));
+    side
+}
+
+pub fn silent() -> bool {
+    SILENT.with(|cell| cell.replace(false))
+}
+END
+fi
+
+# Prints the file with the n-th rounding turned or silent, and the line that holds it on standard error.
 turn() {
-    awk -v wanted="$2" '
+    awk -v wanted="$2" -v how="$how" '
         /^use|planted/ { print; next }
         {
             rest = $0; line = ""
@@ -22,7 +47,8 @@ turn() {
                 word = substr(rest, RSTART + 1, RLENGTH - 2)
                 if (seen == wanted) {
                     place = FNR ": " $0
-                    word = word == "Up" ? "Down" : "Up"
+                    if (how == "silent") word = "crate::faults::silenced(" word ")"
+                    else word = word == "Up" ? "Down" : "Up"
                 }
                 line = line substr(rest, 1, RSTART) word
                 rest = substr(rest, RSTART + RLENGTH - 1)

@@ -105,7 +105,7 @@ class Trace:
     def vector(self, line, name):
         self.names += 1
         if re.fullmatch("[A-L]", name):
-            if not re.search(rf"^\s*-- {name}(:|$)", self.text(MARKED) or "", re.M):
+            if not re.search(rf"^\s*-- {name}([:;]|$)", self.text(MARKED) or "", re.M):
                 self.fail(line, f"model {name} does not stand in {MARKED}")
         elif not any(re.search(rf"^{re.escape(name)} ", self.text(m) or "", re.M) for m in MODELS):
             self.fail(line, f"no model is called {name}")

@@ -36,7 +36,7 @@ fn figure(of: plain::Figure) -> String {
     }
 }
 
-/// The plain program's answer, as the report program prints it.
+/// The plain program's answer, as the report program prints it but for the marks.
 fn shown(answer: Result<plain::Report, plain::Refusal>) -> String {
     match answer {
         Ok(r) => format!(
@@ -50,6 +50,12 @@ fn shown(answer: Result<plain::Report, plain::Refusal>) -> String {
         ),
         Err(refusal) => format!("refused {} at {}", refusal.number, refusal.place),
     }
+}
+
+/// An answer without its line of marks, which the plain program does not work out.
+fn without_marks(answer: &str) -> String {
+    let lines: Vec<&str> = answer.lines().filter(|line| !line.starts_with("exact ")).collect();
+    lines.join("\n")
 }
 
 fn independent(words: &[u32]) -> String {
@@ -67,12 +73,19 @@ fn seconds(run: impl Fn()) -> f64 {
     start.elapsed().as_secs_f64()
 }
 
-/// Runs the three in turn, so that whatever disturbs the machine disturbs all of them.
-fn time(case: &Case) -> Timing {
+/// The answer that all three give.
+fn agreed(case: &Case) -> String {
     let words = case.words.as_slice();
     let answer = proved(words);
-    assert_eq!(answer, shown(plain::assess(words, BUDGET)), "{}", case.name);
+    assert_eq!(without_marks(&answer), shown(plain::assess(words, BUDGET)), "{}", case.name);
     assert_eq!(answer, independent(words), "{}", case.name);
+    answer
+}
+
+/// Runs the three in turn, so that whatever disturbs the machine disturbs all of them.
+fn time(case: &Case) -> Timing {
+    agreed(case);
+    let words = case.words.as_slice();
     let steps = bounds::assess(words, BUDGET).map_or(0, |report| report.steps);
     let mut timing = Timing { steps, proved: f64::MAX, plain: f64::MAX, independent: f64::MAX };
     let start = Instant::now();
@@ -153,12 +166,29 @@ fn main() {
         "Written by `cargo run --release --offline --manifest-path bench/Cargo.toml`, on {}.\n",
         machine()
     );
-    println!("Three programs on the same models, in turn and in one run, all built for release: the proved library (`crates/`, through the Rust wrapper), the same algorithm in plain Rust (`bench/src/plain`: arrays changed in place, no proofs) and the independent implementation (`reference/`). Each number is the least of at least {LEAST_RUNS} runs. All three gave the same answer to every model.\n");
+    println!("Three programs on the same models, in turn and in one run, all built for release: the proved library (`crates/`, through the Rust wrapper), the same algorithm in plain Rust (`bench/src/plain`: arrays changed in place, no proofs) and the independent implementation (`reference/`). Each number is the least of at least {LEAST_RUNS} runs. All three gave the same answer to every model; the plain program works out no marks (the line `exact`).\n");
     println!("## Trees of about 1,000,000 steps\n");
     per_step(&models::trees());
+    println!("\n## A tree whose figures stay exact\n");
+    println!("Its report ends in `exact 11`: every operation that the figures rest on is asked whether it lost anything, to the last path. On the trees above both digits are 0 after a few steps, and nothing is asked any more.\n");
+    per_step(&models::exact());
     println!("\n## Reading\n");
     per_call(&models::tables());
     println!("\n## How the cost grows with the steps\n");
     println!("The time of a whole call, reading and tables included, over its steps.\n");
     per_step(&models::growing());
+}
+
+#[cfg(test)]
+mod tests {
+    use super::*;
+
+    /// The tree that is to stay exact does, and takes the steps that its name says.
+    #[test]
+    fn nothing_is_rounded() {
+        for case in models::exact() {
+            let answer = agreed(&case);
+            assert!(answer.ends_with("\nsteps 69904\nexact 11"), "{answer}");
+        }
+    }
 }

@@ -107,6 +107,21 @@ fn long_deaths() -> Vec<u32> {
     layered(&branches, &deaths)
 }
 
+/// Deaths on paths of four class 1 steps, with sixteen exits from each state on the way, whose figures stay exact: the rates out of a state are 3E-4, 6E-4,
+/// 9E-4 and 12E-4, four times each, so that all quotients by 2, 3, 4 and 5 end early and the sums are short.
+fn exact_tree() -> Vec<u32> {
+    const EXITS: u32 = 16;
+    let mut draft = Draft::new(1 + 4 * EXITS, 1, (0, 0), 24, 1);
+    for from in 1..=1 + 3 * EXITS {
+        // the start is a layer of its own
+        let next = if from == 1 { 2 } else { (from - 2) / EXITS * EXITS + EXITS + 2 };
+        for exit in 0..EXITS {
+            draft.slow(from, next + exit, (3 * (1 + (from + exit) % 4), 4));
+        }
+    }
+    draft.ended()
+}
+
 /// 1,000 states and 4,000 transitions: 800 states with five exits each, to states picked at random, 200 without.
 fn wide_net(prune: (u32, u32)) -> Vec<u32> {
     let mut draft = Draft::new(1_000, 1, prune, 24, 2);
@@ -147,6 +162,11 @@ pub fn trees() -> Vec<Case> {
         case("deaths end long paths (24 steps)", long_deaths()),
         case("1,000 states, 4,000 transitions", wide_net((1, 17))),
     ]
+}
+
+/// A tree of 69,904 steps whose two marks are 1 to the last.
+pub fn exact() -> Vec<Case> {
+    vec![Case { name: "nothing is rounded (4 steps)".to_string(), words: exact_tree() }]
 }
 
 /// Reading alone, and reading with the tables.

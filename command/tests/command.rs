@@ -7,7 +7,7 @@ use std::process::{Command, Output, Stdio};
 type Tested = Result<(), Box<dyn Error>>;
 
 const REPORT_A: &str =
-    "lower 9.99500000E-4\nupper 1.00000000E-3\ncut 0\ndeaths 1\ncuts 0\nsteps 1\n";
+    "lower 9.99500000E-4\nupper 1.00000000E-3\ncut 0\ndeaths 1\ncuts 0\nsteps 1\nexact 11\n";
 const DIGITS_A: &str = "11002001 2000000A 30000000 41801000 50001002 60400001 F0000000";
 
 /// Runs the command in the root of the repository.
@@ -40,6 +40,8 @@ fn reports() -> Tested {
     let (status, out, _) = said(&["report", "-", "--json"], DIGITS_A)?;
     assert_eq!(status, 0);
     assert!(out.starts_with("{\"answer\": \"report\", \"lower\": \"9.99500000E-4\", "), "{out}");
+    let marks = "\"steps\": 1, \"lower_exact\": true, \"upper_exact\": true}\n";
+    assert!(out.ends_with(marks), "{out}");
     Ok(())
 }
 
@@ -57,7 +59,7 @@ fn rows() -> Tested {
     assert_eq!(run(&["rows", "-", "--budget=4"], &bytes)?.stdout, expected.as_bytes());
     let (status, out, _) = said(&["rows", file, "--json"], "")?;
     assert_eq!(status, 0);
-    let expected = "\"steps\": 4, \"rows\": [\
+    let expected = "\"lower_exact\": false, \"upper_exact\": true, \"rows\": [\
                     {\"state\": 5, \"lower\": \"5.95907546E-10\", \"upper\": \"6.00000000E-10\", \"share\": \"99.95%\"}, \
                     {\"state\": 3, \"lower\": \"2.93991641E-13\", \"upper\": \"3.00000000E-13\", \"share\": \"0.05%\"}]}\n";
     assert!(out.starts_with("{\"answer\": \"report\", ") && out.ends_with(expected), "{out}");
@@ -292,9 +294,9 @@ fn both_ways() -> Tested {
 #[test]
 fn sweeps() -> Tested {
     let (status, out, _) = said(&["sweep", "-", "--time", "10,100"], DIGITS_A)?;
-    let expected = "time  lower          upper          cut  deaths  cuts  steps\n\
-                    10    9.99500000E-4  1.00000000E-3  0    1       0     1\n\
-                    100   9.95000000E-3  1.00000000E-2  0    1       0     1\n";
+    let expected = "time  lower          upper          cut  deaths  cuts  steps  exact\n\
+                    10    9.99500000E-4  1.00000000E-3  0    1       0     1      11\n\
+                    100   9.95000000E-3  1.00000000E-2  0    1       0     1      11\n";
     assert_eq!((status, out.as_str()), (0, expected));
     let (status, out, _) = said(&["sweep", "-", "--rate", "0=1e-4", "--budget", "0"], DIGITS_A)?;
     assert_eq!((status, out.lines().nth(1)), (1, Some("1e-4       refused 2 at 0")));

@@ -46,5 +46,8 @@ int main(void)
     const bounds_figure limit = { 100000000, -11 };
     printf("at most 1E-3: %s\n", bounds_meets(answer.upper, limit) ? "yes" : "no");
     printf("between %.17g and %.17g\n", bounds_double_below(answer.lower), bounds_double_above(answer.upper));
+
+    /* Was nothing rounded? A mark of 1 says so; one of 0 says nothing. */
+    printf("upper equals its exact sum: %s\n", answer.upper_exact ? "yes" : "not known");
     return 0;
 }

@@ -19,12 +19,26 @@ pub struct Report {
     /// The cut paths' part of the upper figure.
     pub cut: Figure,
     pub counts: Counts,
+    /// Whether no operation that the lower figure rests on lost anything; it is the very sum then.
+    pub lower_exact: bool,
+    /// The same of the upper figure.
+    pub upper_exact: bool,
 }
 
 #[derive(Clone, Copy, Debug, PartialEq, Eq)]
 pub enum Answer {
     Report(Report),
     Refused(Refusal),
+}
+
+impl Answer {
+    /// The two digits, lower then upper; in a refusal both are 0.
+    pub fn exact(&self) -> [bool; 2] {
+        match self {
+            Answer::Report(report) => [report.lower_exact, report.upper_exact],
+            Answer::Refused(_) => [false; 2],
+        }
+    }
 }
 
 impl fmt::Display for Report {
@@ -34,7 +48,8 @@ impl fmt::Display for Report {
         writeln!(out, "cut {}", self.cut)?;
         writeln!(out, "deaths {}", self.counts.deaths)?;
         writeln!(out, "cuts {}", self.counts.cuts)?;
-        writeln!(out, "steps {}", self.counts.steps)
+        writeln!(out, "steps {}", self.counts.steps)?;
+        writeln!(out, "exact {}{}", u8::from(self.lower_exact), u8::from(self.upper_exact))
     }
 }
 

@@ -1,7 +1,7 @@
 //! The exact bounds of paths, as fractions, and their sums over the cut tree.
 
-use crate::figure::Figure;
 use crate::fraction::{Fraction, Sum};
+use crate::marked::MarkedFigure;
 use crate::model::{Law, Model, Quantity, Refusal};
 use crate::steps::{Class, Figures, GRAINS};
 use crate::walk::{walk, End, Watcher};
@@ -210,7 +210,7 @@ fn over_factorial(value: Fraction, k: u32) -> Fraction {
 }
 
 impl Watcher for ExactWatcher {
-    fn ended(&mut self, end: End, path: &[usize], _upper: Figure) {
+    fn ended(&mut self, end: End, path: &[usize], _upper: MarkedFigure) {
         let upper = self.upper_of(path);
         match (end, path.last()) {
             (End::Death, Some(&last)) => {

@@ -47,10 +47,23 @@ pub enum Fault {
     RowUpperWithCuts,
     RowLowerRoundsUp,
     RowsOfNineDigits,
+    TimeUpUncounted,
+    TimeSquareUncounted,
+    GrainsSquaredUncounted,
+    FullGrainsUncounted,
+    FullAllCounted,
+    ZeroForgets,
+    NegativeCounted,
+    HoldCounted,
+    UpperCounted,
+    AdditionsUncounted,
+    LastRoundingUncounted,
+    CutsUncounted,
+    CutFigureCounted,
 }
 
 /// Every fault with its name and what it does.
-pub const ALL: [(Fault, &str, &str); 41] = [
+pub const ALL: [(Fault, &str, &str); 54] = [
     (Fault::UpperRoundsDown, "upper-rounds-down", "U × rate rounds down in class 1"),
     (Fault::EscapeRoundsDown, "escape-rounds-down", "the sum E rounds down"),
     (Fault::LowerRoundsUp, "lower-rounds-up", "the last product of a lower rounds up"),
@@ -100,6 +113,19 @@ pub const ALL: [(Fault, &str, &str); 41] = [
     (Fault::RowUpperWithCuts, "row-upper-with-cuts", "a row's upper holds the cut paths' part too"),
     (Fault::RowLowerRoundsUp, "row-lower-rounds-up", "a row's lower goes to nine digits upward"),
     (Fault::RowsOfNineDigits, "rows-of-nine-digits", "the totals of rows keep nine digits"),
+    (Fault::TimeUpUncounted, "up-t-uncounted", "up(t) is left out of a mark where A is 0"),
+    (Fault::TimeSquareUncounted, "t2-uncounted", "T2 is left out of the marks"),
+    (Fault::GrainsSquaredUncounted, "n2-uncounted", "n² as a figure is left out of the marks"),
+    (Fault::FullGrainsUncounted, "full-uncounted", "nothing counts where N' is full"),
+    (Fault::FullAllCounted, "full-all-counted", "E and factors count too where N' is full"),
+    (Fault::ZeroForgets, "zero-forgets", "a factor of 0 forgets what the steps lost"),
+    (Fault::NegativeCounted, "negative-counted", "a negative difference set to 0 is a loss"),
+    (Fault::HoldCounted, "h-counted", "a lower rests on h in class 2"),
+    (Fault::UpperCounted, "u-counted", "a lower rests on U"),
+    (Fault::AdditionsUncounted, "additions-uncounted", "the lower total's additions don't count"),
+    (Fault::LastRoundingUncounted, "last-uncounted", "the lower's last rounding doesn't count"),
+    (Fault::CutsUncounted, "cuts-uncounted", "the upper's mark leaves the cut paths out"),
+    (Fault::CutFigureCounted, "cut-figure-counted", "the upper rests on the cut figure's rounding"),
 ];
 
 thread_local! {

@@ -1,5 +1,5 @@
 //! Figures: zero, or a whole number of a fixed length times a power of ten. Each operation rounds
-//! once.
+//! once, and tells whether it kept the number as it was (document 02, Item 2).
 
 use crate::faults::{planted, Fault};
 use crate::model::Quantity;
@@ -28,6 +28,14 @@ pub type Figure = Decimal<9>;
 /// A running total of document 01.
 pub type Total = Decimal<18>;
 
+/// A rounded number, and whether nothing was lost: by the operation, and where [`crate::marked`]
+/// puts operations together, by any of them.
+#[derive(Clone, Copy, Debug, PartialEq, Eq)]
+pub struct Marked<const LENGTH: u32> {
+    pub value: Decimal<LENGTH>,
+    pub kept: bool,
+}
+
 /// The widest gap of powers at which two numbers are brought to one power: 18 + 20 digits fit 128
 /// bits.
 const WIDEST_GAP: u32 = 20;
@@ -50,20 +58,27 @@ impl<const LENGTH: u32> Decimal<LENGTH> {
 
     /// value × 10^power on one side. With `more`, what is rounded lies strictly between value and
     /// value + 1; the value then has at least `LENGTH` digits.
-    fn rounded(value: u128, power: i32, more: bool, side: Side) -> Self {
+    fn rounded(value: u128, power: i32, more: bool, side: Side) -> Marked<LENGTH> {
         if value == 0 {
-            return Self::ZERO;
+            return Self::ZERO.kept();
         }
         let length = length_of(value);
         if length <= LENGTH {
             let lift = LENGTH - length;
             let digits = value as u64 * ten_to(lift) as u64;
-            return Self::carried(digits, more && side == Up, power - lift as i32);
+            let value = Self::carried(digits, more && side == Up, power - lift as i32);
+            return Marked { value, kept: !more };
         }
         let drop = length - LENGTH;
         let (digits, rest) = divided(value, ten_to(drop));
-        let inexact = more || rest != 0;
-        Self::carried(digits as u64, inexact && side == Up, power + drop as i32)
+        let kept = !more && rest == 0;
+        let value = Self::carried(digits as u64, !kept && side == Up, power + drop as i32);
+        Marked { value, kept }
+    }
+
+    /// This number, with nothing lost.
+    pub fn kept(self) -> Marked<LENGTH> {
+        Marked { value: self, kept: true }
     }
 
     /// The digits, one more if asked for, with the carry into the power when they become too long.
@@ -77,26 +92,26 @@ impl<const LENGTH: u32> Decimal<LENGTH> {
     }
 
     /// A whole number, rounded.
-    pub fn whole(number: u64, side: Side) -> Self {
+    pub fn whole(number: u64, side: Side) -> Marked<LENGTH> {
         Self::rounded(u128::from(number), 0, false, side)
     }
 
-    pub fn times(self, other: Self, side: Side) -> Self {
+    pub fn times(self, other: Self, side: Side) -> Marked<LENGTH> {
         let product = u128::from(self.digits) * u128::from(other.digits);
         Self::rounded(product, self.power + other.power, false, side)
     }
 
     /// The quotient; the divisor is not zero.
-    pub fn over(self, divisor: Self, side: Side) -> Self {
+    pub fn over(self, divisor: Self, side: Side) -> Marked<LENGTH> {
         let lift = LENGTH + 1;
         let lifted = u128::from(self.digits) * ten_to(lift);
         let (quotient, rest) = divided(lifted, u128::from(divisor.digits));
         Self::rounded(quotient, self.power - divisor.power - lift as i32, rest != 0, side)
     }
 
-    pub fn plus(self, other: Self, side: Side) -> Self {
+    pub fn plus(self, other: Self, side: Side) -> Marked<LENGTH> {
         if self.is_zero() || other.is_zero() {
-            return if self.is_zero() { other } else { self };
+            return if self.is_zero() { other } else { self }.kept();
         }
         let (high, low) = if self.power >= other.power { (self, other) } else { (other, self) };
         let gap = high.power.abs_diff(low.power);
@@ -108,17 +123,18 @@ impl<const LENGTH: u32> Decimal<LENGTH> {
         Self::rounded(sum, low.power, false, side)
     }
 
-    /// The difference; 0 where it isn't positive.
-    pub fn minus(self, other: Self, side: Side) -> Self {
+    /// The difference; 0 where it isn't positive, which loses nothing.
+    pub fn minus(self, other: Self, side: Side) -> Marked<LENGTH> {
         if other.is_zero() {
-            return self;
+            return self.kept();
         }
         if self <= other {
-            return Self::ZERO;
+            let kept = self == other || !planted(Fault::NegativeCounted);
+            return Marked { value: Self::ZERO, kept };
         }
         let gap = self.power.abs_diff(other.power);
         if gap > WIDEST_GAP && planted(Fault::TinyDifferenceLost) {
-            return self;
+            return self.kept();
         }
         if gap > WIDEST_GAP {
             let just_below = u128::from(self.digits) * 10 - 1;
@@ -172,7 +188,7 @@ impl Figure {
     /// A whole number of at most nine digits, which is exact.
     pub fn small(number: u64) -> Figure {
         debug_assert!(number < 1_000_000_000);
-        Figure::whole(number, Down)
+        Figure::whole(number, Down).value
     }
 
     /// A quantity of the words; six digits always fit.
@@ -182,13 +198,13 @@ impl Figure {
 
     /// The same number as a total.
     pub fn widened(self) -> Total {
-        Total::rounded(u128::from(self.digits), self.power, false, Down)
+        Total::rounded(u128::from(self.digits), self.power, false, Down).value
     }
 }
 
 impl Total {
     /// The total on one side, to nine digits.
-    pub fn narrowed(self, side: Side) -> Figure {
+    pub fn narrowed(self, side: Side) -> Marked<9> {
         Figure::rounded(u128::from(self.digits), self.power, false, side)
     }
 }

@@ -6,6 +6,7 @@
 //!
 //! - [`words`]: words to a model, refusals 1 to 11
 //! - [`figure`]: nine and eighteen digit figures with their two roundings
+//! - [`marked`]: the same with a mark that nothing was lost
 //! - [`steps`]: the figures that belong to a state or to a transition (E, h, H, grains, factors)
 //! - [`walk`]: the cut tree, refusal 13
 //! - [`bounds`]: the lower figure of a path and the totals
@@ -21,6 +22,7 @@ pub mod exact;
 pub mod faults;
 pub mod figure;
 pub mod fraction;
+pub mod marked;
 pub mod model;
 pub mod rows;
 pub mod steps;

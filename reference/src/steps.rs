@@ -1,8 +1,10 @@
-//! The figures that belong to a state or to a transition, whatever path it stands in.
+//! The figures that belong to a state or to a transition, whatever path it stands in, and whether
+//! something was lost on the way to them; both are worked out once for a model.
 
 use crate::faults::{planted, Fault};
 use crate::figure::Figure;
 use crate::figure::Side::{Down, Up};
+use crate::marked::MarkedFigure;
 use crate::model::{Law, Model, Quantity};
 use std::cmp::Ordering;
 
@@ -21,21 +23,23 @@ pub enum Class {
 pub struct Step {
     pub class: Class,
     /// The rate, or for class 2 the probability q.
-    pub weight: Figure,
+    pub weight: MarkedFigure,
     /// E of the state that is left.
-    pub escape: Figure,
+    pub escape: MarkedFigure,
     /// h of the state that is left; 0 for a state without fast exits.
-    pub hold: Figure,
+    pub hold: MarkedFigure,
     /// n; 0 for class 1.
     pub grains: u64,
+    /// Whether the operations for n lost nothing.
+    pub grains_kept: bool,
     /// The factor in a lower; unused for class 1.
-    pub factor: Figure,
+    pub factor: MarkedFigure,
 }
 
 /// All the figures that the walk uses.
 pub struct Figures {
     /// T
-    pub time: Figure,
+    pub time: MarkedFigure,
     /// P
     pub prune: Figure,
     /// By the transition's number in the table.
@@ -44,28 +48,29 @@ pub struct Figures {
 
 /// T and T2.
 struct Times {
-    time: Figure,
-    square: Figure,
+    time: MarkedFigure,
+    square: MarkedFigure,
 }
 
 /// The figures of one state.
 struct State {
     has_fast: bool,
     /// E
-    escape: Figure,
+    escape: MarkedFigure,
     /// h
-    hold: Figure,
+    hold: MarkedFigure,
     /// h'
-    hold_down: Figure,
+    hold_down: MarkedFigure,
     /// H
-    square: Figure,
+    square: MarkedFigure,
 }
 
 impl Figures {
     pub fn of(model: &Model) -> Figures {
-        let time = Figure::of(model.time);
+        let time = MarkedFigure::of(model.time);
         let side = if planted(Fault::TimeSquareUp) { Up } else { Down };
-        let times = Times { time, square: time.times(time, side) };
+        let mut times = Times { time, square: time.times(time, side) };
+        times.square.kept |= planted(Fault::TimeSquareUncounted);
         let states: Vec<State> =
             (0..=model.states).map(|state| State::of(model, state, None)).collect();
         let steps = model
@@ -79,8 +84,7 @@ impl Figures {
                 Law::Slow { rate } => slow_step(rate, &states[transition.from], &times),
                 Law::Fast { mean, deviation, probability } => {
                     let square = second_moment(mean, deviation);
-                    let escape = states[transition.from].escape;
-                    fast_step(Figure::of(mean), square, Figure::of(probability), escape, &times)
+                    fast_step(mean, square, probability, &states[transition.from], &times)
                 }
             })
             .collect();
@@ -89,15 +93,15 @@ impl Figures {
 }
 
 /// M of a fast exit: both squares rounded up, then their sum.
-fn second_moment(mean: Quantity, deviation: Quantity) -> Figure {
-    let (mean, deviation) = (Figure::of(mean), Figure::of(deviation));
+fn second_moment(mean: Quantity, deviation: Quantity) -> MarkedFigure {
+    let (mean, deviation) = (MarkedFigure::of(mean), MarkedFigure::of(deviation));
     mean.times(mean, Up).plus(deviation.times(deviation, Up), Up)
 }
 
 impl State {
     /// The figures of a state. A slow exit `without` is passed over; only a planted fault asks so.
     fn of(model: &Model, state: usize, without: Option<usize>) -> State {
-        let zero = Figure::ZERO;
+        let zero = MarkedFigure::ZERO;
         let mut sums =
             State { has_fast: false, escape: zero, hold: zero, hold_down: zero, square: zero };
         let mut exits = model.exits[state].clone();
@@ -109,7 +113,7 @@ impl State {
                 Law::Slow { .. } if without == Some(exit) => {}
                 Law::Slow { rate } => {
                     let side = if planted(Fault::EscapeRoundsDown) { Down } else { Up };
-                    sums.escape = sums.escape.plus(Figure::of(rate), side);
+                    sums.escape = sums.escape.plus(MarkedFigure::of(rate), side);
                 }
                 Law::Fast { mean, deviation, probability } => {
                     sums.add_fast(mean, second_moment(mean, deviation), probability);
@@ -122,8 +126,8 @@ impl State {
         sums
     }
 
-    fn add_fast(&mut self, mean: Quantity, second_moment: Figure, probability: Quantity) {
-        let (mean, q) = (Figure::of(mean), Figure::of(probability));
+    fn add_fast(&mut self, mean: Quantity, second_moment: MarkedFigure, probability: Quantity) {
+        let (mean, q) = (MarkedFigure::of(mean), MarkedFigure::of(probability));
         self.has_fast = true;
         self.hold = self.hold.plus(q.times(mean, Up), Up);
         self.hold_down = self.hold_down.plus(q.times(mean, Down), Down);
@@ -132,51 +136,66 @@ impl State {
 }
 
 /// A planted fault: the means of the fast exits, summed and divided by their number.
-fn plain_mean(model: &Model, state: usize) -> Figure {
-    let (mut sum, mut number) = (Figure::ZERO, 0);
+fn plain_mean(model: &Model, state: usize) -> MarkedFigure {
+    let (mut sum, mut number) = (MarkedFigure::ZERO, 0);
     for &exit in &model.exits[state] {
         if let Law::Fast { mean, .. } = model.transitions[exit].law {
-            sum = sum.plus(Figure::of(mean), Up); // planted
+            sum = sum.plus(MarkedFigure::of(mean), Up); // planted
             number += 1;
         }
     }
-    sum.over(Figure::small(number), Up) // planted
+    sum.over(MarkedFigure::small(number), Up) // planted
 }
 
 /// Class 1 or class 3.
 fn slow_step(rate: Quantity, state: &State, times: &Times) -> Step {
-    let rate = Figure::of(rate);
+    let rate = MarkedFigure::of(rate);
     let mut step = Step {
         class: Class::One,
         weight: rate,
         escape: state.escape,
         hold: state.hold,
         grains: 0,
-        factor: Figure::ZERO,
+        grains_kept: true,
+        factor: MarkedFigure::ZERO,
     };
     if !state.has_fast {
         return step;
     }
     let ratio = state.square.over(state.hold_down.times(times.time, Down), Up);
-    let grains = least_grains(2, ratio.shifted(12));
-    let length = Figure::small(grains).times(times.time, Down);
-    let loss = state.escape.times(state.square, Up).over(Figure::small(2), Up);
+    let grains = least_grains(2, ratio.value.shifted(12));
+    let length = MarkedFigure::small(grains).and(ratio.kept).times(times.time, Down);
+    let loss = state.escape.times(state.square, Up).over(MarkedFigure::small(2), Up);
     let y = loss.plus(state.square.over(length, Up).shifted(6), Up);
     step.class = Class::Three;
     step.hold = if planted(Fault::MeanDownForUp) { state.hold_down } else { state.hold };
-    step.grains = grains;
+    (step.grains, step.grains_kept) = (grains, ratio.kept);
     step.factor = rate.times(state.hold_down.minus(y, Down), Down);
     step
 }
 
 /// Class 2.
-fn fast_step(mean: Figure, square: Figure, q: Figure, escape: Figure, times: &Times) -> Step {
-    let ratio = Figure::small(2).times(square, Up).over(times.square, Up);
-    let grains = least_grains(3, ratio.shifted(18));
-    let length = Figure::whole(grains * grains, Down).times(times.square, Down);
+fn fast_step(
+    mean: Quantity,
+    square: MarkedFigure,
+    probability: Quantity,
+    state: &State,
+    times: &Times,
+) -> Step {
+    let (mean, q) = (MarkedFigure::of(mean), MarkedFigure::of(probability));
+    let (escape, hold) = (state.escape, MarkedFigure::ZERO);
+    let ratio = MarkedFigure::small(2).times(square, Up).over(times.square, Up);
+    let grains = least_grains(3, ratio.value.shifted(18));
+    let mut grains_squared = MarkedFigure::whole(grains * grains, Down).and(ratio.kept);
+    if planted(Fault::GrainsSquaredUncounted) {
+        grains_squared.kept = ratio.kept;
+    }
+    let length = grains_squared.times(times.square, Down);
     let y = escape.times(mean, Up).plus(square.over(length, Up).shifted(12), Up);
-    let factor = q.times(Figure::ONE.minus(y, Down), Down);
-    Step { class: Class::Two, weight: q, escape, hold: Figure::ZERO, grains, factor }
+    let mut factor = q.times(MarkedFigure::ONE.minus(y, Down), Down);
+    factor.kept &= state.hold.kept || !planted(Fault::HoldCounted);
+    let (class, weight, grains_kept) = (Class::Two, q, ratio.kept);
+    Step { class, weight, escape, hold, grains, grains_kept, factor }
 }
 
 /// The least whole number whose square (exponent 2) or cube (3) is at or above g, which isn't zero.

@@ -4,6 +4,7 @@ use crate::answer::Counts;
 use crate::faults::{planted, Fault};
 use crate::figure::Figure;
 use crate::figure::Side::{Down, Up};
+use crate::marked::MarkedFigure;
 use crate::model::{Model, Refusal};
 use crate::steps::{Class, Figures};
 
@@ -14,9 +15,10 @@ pub enum End {
     Cut,
 }
 
-/// Told of every ended path, in the order of the walk: its transitions by number, and its U.
+/// Told of every ended path, in the order of the walk: its transitions by number, and its U with
+/// the mark of U's operations.
 pub trait Watcher {
-    fn ended(&mut self, end: End, path: &[usize], upper: Figure);
+    fn ended(&mut self, end: End, path: &[usize], upper: MarkedFigure);
 }
 
 /// Walks the whole tree, or ends with refusal 13 at the first step over the budget.
@@ -30,14 +32,14 @@ pub fn walk(
     entries[model.start] = u32::from(!planted(Fault::StartNotEntered));
     let counts = Counts::default();
     let mut walker = Walker { model, figures, budget, watcher, entries, path: Vec::new(), counts };
-    walker.continue_from(model.start, Upper { value: Figure::ONE, class_ones: 0 })?;
+    walker.continue_from(model.start, Upper { value: MarkedFigure::ONE, class_ones: 0 })?;
     Ok(walker.counts)
 }
 
 /// U of the path so far, and the number of its class 1 steps.
 #[derive(Clone, Copy)]
 struct Upper {
-    value: Figure,
+    value: MarkedFigure,
     class_ones: u64,
 }
 
@@ -66,7 +68,7 @@ impl<'a> Walker<'a> {
             self.path.push(exit);
             self.entries[to] += 1;
             let longer = self.lengthened(upper, exit);
-            match self.end_at(to, longer.value) {
+            match self.end_at(to, longer.value.value) {
                 Some(end) => self.finish(end, longer.value),
                 None => self.continue_from(to, longer)?,
             }
@@ -98,7 +100,7 @@ impl<'a> Walker<'a> {
         }
     }
 
-    fn finish(&mut self, end: End, upper: Figure) {
+    fn finish(&mut self, end: End, upper: MarkedFigure) {
         match end {
             End::Death => self.counts.deaths += 1,
             End::Cut => self.counts.cuts += 1,
@@ -118,7 +120,7 @@ impl<'a> Walker<'a> {
                     divisor = self.path.len() as u64;
                 }
                 let product = value.times(step.weight, first).times(self.figures.time, Up);
-                let value = product.over(Figure::small(divisor), Up);
+                let value = product.over(MarkedFigure::small(divisor), Up);
                 Upper { value, class_ones: class_ones + 1 }
             }
             Class::Two => Upper { value: value.times(step.weight, Up), class_ones },

@@ -61,18 +61,34 @@ fn wrong_reports_are_noticed() {
     let (right, _) = report_of(&model);
     let tiny = Figure::ONE.shifted(-14);
     let mut wrong = right;
-    wrong.upper = right.upper.minus(tiny, Down);
+    wrong.upper = right.upper.minus(tiny, Down).value;
     assert_eq!(check(&model, &wrong, &[]), broken(Part::UpperBelowSum, None));
-    wrong.upper = right.upper.plus(tiny.shifted(4), Up);
+    wrong.upper = right.upper.plus(tiny.shifted(4), Up).value;
     assert_eq!(check(&model, &wrong, &[]), broken(Part::UpperTooHigh, None));
     let mut wrong = right;
-    wrong.lower = right.lower.plus(tiny.shifted(2), Up);
+    wrong.lower = right.lower.plus(tiny.shifted(2), Up).value;
     assert_eq!(check(&model, &wrong, &[]), broken(Part::LowerAboveSum, None));
-    wrong.lower = right.lower.minus(tiny.shifted(5), Down);
+    wrong.lower = right.lower.minus(tiny.shifted(5), Down).value;
     assert_eq!(check(&model, &wrong, &[]), broken(Part::LowerTooLow, None));
     let mut wrong = right;
     wrong.counts.steps -= 1;
     assert_eq!(check(&model, &wrong, &[]), broken(Part::TreeIsLarger, None));
+}
+
+#[test]
+fn wrong_digits_are_noticed() {
+    let model = model_of(&MODEL_B);
+    let (mut found, _) = report_of(&model);
+    assert!(!found.lower_exact && found.upper_exact);
+    assert_eq!(check(&model, &found, &[]), Ok(()));
+    // The lower figure lies below its sum, the upper one is its sum until it is one digit above.
+    found.lower_exact = true;
+    assert_eq!(check(&model, &found, &[]), broken(Part::LowerNotExact, None));
+    found.lower_exact = false;
+    found.upper = found.upper.plus(Figure::ONE.shifted(-14), Up).value;
+    assert_eq!(check(&model, &found, &[]), broken(Part::UpperNotExact, None));
+    found.upper_exact = false;
+    assert_eq!(check(&model, &found, &[]), Ok(()));
 }
 
 #[test]
@@ -86,9 +102,9 @@ fn wrong_rows_are_noticed() {
         check(&model, &report, &rows)
     };
     for (place, state) in [(0, 3), (1, 5)] {
-        let upper: fn(&mut Row, Figure) = |row, by| row.upper = row.upper.times(by, Down);
-        let lower: fn(&mut Row, Figure) = |row, by| row.lower = row.lower.times(by, Down);
-        let less = Figure::ONE.minus(thousandth, Down);
+        let upper: fn(&mut Row, Figure) = |row, by| row.upper = row.upper.times(by, Down).value;
+        let lower: fn(&mut Row, Figure) = |row, by| row.lower = row.lower.times(by, Down).value;
+        let less = Figure::ONE.minus(thousandth, Down).value;
         assert_eq!(check_row(place, upper, less), broken(Part::UpperBelowSum, Some(state)));
         assert_eq!(check_row(place, upper, thrice), broken(Part::UpperTooHigh, Some(state)));
         assert_eq!(check_row(place, lower, thrice), broken(Part::LowerAboveSum, Some(state)));
@@ -124,7 +140,7 @@ fn check_data(text: &str, most_paths: u64) -> usize {
 
 #[test]
 fn models_with_expected_answers() {
-    assert!(check_data(include_str!("data/models.txt"), 4_000) > 150);
+    assert!(check_data(include_str!("data/models.txt"), 4_000) > 450);
     assert!(check_data(include_str!("data/papers.txt"), 4_000) > 50);
     assert!(check_data(include_str!("data/rows.txt"), 4_000) > 30);
 }

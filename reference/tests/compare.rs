@@ -20,7 +20,13 @@ fn agrees_with_itself_and_meets_every_answer() {
     assert_eq!(counts.len(), 15, "{text}");
     assert!(counts.iter().all(|&count| count > 0), "{text}");
     assert_eq!(counts[0], 6_000);
-    for line in ["rows filled: ", "rows of zeros on refusal 13: ", "rows left as they were: "] {
+    for line in [
+        "digits 00, 01, 10, 11: ",
+        "exact sums by a digit of one: ",
+        "rows filled: ",
+        "rows of zeros on refusal 13: ",
+        "rows left as they were: ",
+    ] {
         let of = text.lines().find(|other| other.starts_with(line)).unwrap_or_default();
         let counts: Vec<u64> = of.split_whitespace().filter_map(|part| part.parse().ok()).collect();
         assert!(!counts.is_empty() && counts.iter().all(|&count| count > 100), "{text}");

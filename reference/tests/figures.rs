@@ -1,8 +1,9 @@
 //! Figures against their definition: up(x) is the least figure not below x, down(x) the greatest
-//! not above. The exact x is a fraction.
+//! not above. The exact x is a fraction. Something was lost exactly if x is positive and another
+//! number than the figure.
 
 use reference::figure::Side::{self, Down, Up};
-use reference::figure::{Decimal, Figure, Total};
+use reference::figure::{Decimal, Figure, Marked, Total};
 use reference::fraction::Fraction;
 use reference::model::Quantity;
 
@@ -26,7 +27,7 @@ impl Random {
         };
         let spread = if self.next().is_multiple_of(2) { 8 } else { 60 };
         let power = (self.next() % spread) as i32 - spread as i32 / 2;
-        Decimal::whole(digits, Down).shifted(power)
+        Decimal::whole(digits, Down).value.shifted(power)
     }
 }
 
@@ -45,7 +46,9 @@ fn neighbour<const LENGTH: u32>(of: Decimal<LENGTH>, side: Side) -> Fraction {
     }
 }
 
-fn check<const LENGTH: u32>(result: Decimal<LENGTH>, value: &Fraction, side: Side) {
+fn check<const LENGTH: u32>(result: Marked<LENGTH>, value: &Fraction, side: Side) {
+    let Marked { value: result, kept } = result;
+    assert_eq!(kept, !value.is_positive() || exact(result) == *value);
     if result.is_zero() {
         assert!(!value.is_positive(), "only a value that isn't positive becomes zero");
         assert_eq!(result.power(), 0);
@@ -68,17 +71,20 @@ fn check_many<const LENGTH: u32>(seed: u64) {
             check(a.plus(b, side), &x.plus(&y), side);
             check(a.minus(b, side), &x.minus(&y), side);
             // A quotient is checked as the product that it should give back.
-            let quotient = a.over(b, side);
+            let Marked { value: quotient, kept } = a.over(b, side);
             let (back, low) = (exact(quotient).times(&y), neighbour(quotient, Down).times(&y));
+            assert_eq!(kept, back == x);
             match side {
                 Up => assert!(back >= x && low < x),
                 Down => assert!(back <= x && neighbour(quotient, Up).times(&y) > x),
             }
         }
         assert_eq!(a.cmp(&b), x.cmp(&y));
-        assert_eq!(a.plus(Decimal::ZERO, Up), a);
-        assert_eq!(a.times(Decimal::ZERO, Up), Decimal::ZERO);
-        assert_eq!(a.times(Decimal::ONE, Up), a);
+        assert_eq!(a.plus(Decimal::ZERO, Up), a.kept());
+        assert_eq!(a.minus(Decimal::ZERO, Up), a.kept());
+        assert_eq!(Decimal::ZERO.minus(a, Down), Decimal::ZERO.kept());
+        assert_eq!(a.times(Decimal::ZERO, Up), Decimal::ZERO.kept());
+        assert_eq!(a.times(Decimal::ONE, Up), a.kept());
     }
 }
 
@@ -101,17 +107,35 @@ fn totals_to_figures() {
         check(total.narrowed(Down), &exact(total), Down);
         let figure: Figure = random.decimal();
         assert_eq!(exact(figure.widened()), exact(figure));
-        assert_eq!(figure.widened().narrowed(Up), figure);
+        assert_eq!(figure.widened().narrowed(Up), figure.kept());
     }
 }
 
 /// Model L of document 01.
 #[test]
 fn model_l() {
-    let figure = Figure::whole(100_000_001, Up).shifted(-8);
+    let figure = Figure::small(100_000_001).shifted(-8);
     assert_eq!(figure.to_string(), "1.00000001E0");
-    assert_eq!(figure.times(figure, Up).to_string(), "1.00000003E0");
-    assert_eq!(figure.times(figure, Down).to_string(), "1.00000002E0");
+    assert_eq!(figure.times(figure, Up).value.to_string(), "1.00000003E0");
+    assert_eq!(figure.times(figure, Down).value.to_string(), "1.00000002E0");
+    assert!(!figure.times(figure, Up).kept && !figure.times(figure, Down).kept);
+}
+
+/// A mark is over the operations: what was lost stays lost, whatever follows.
+#[test]
+fn marks_stay() {
+    let lost = Marked::small(1).over(Marked::small(3), Up);
+    let (zero, one) = (Marked::ZERO, Marked::ONE);
+    assert!(!lost.kept);
+    for after in [lost.times(zero, Down), one.times(lost, Up), lost.minus(one, Down)] {
+        assert!(!after.kept);
+    }
+    assert!(!zero.over(lost, Up).kept && !one.plus(lost, Up).kept && !lost.shifted(3).kept);
+    assert!(!lost.widened().plus(Marked::ZERO, Down).narrowed(Down).kept);
+    // A difference that isn't positive loses nothing, however far below 0 it is.
+    assert!(one.minus(Marked::small(2), Down).kept);
+    assert!(zero.shifted(-9).minus(one.shifted(99), Down).kept);
+    assert_eq!(one.minus(one, Down), zero);
 }
 
 #[test]

@@ -9,6 +9,8 @@ use std::io::{self, BufReader, BufWriter, ErrorKind, Read, Write};
 /// Rows behind those that are lent, which no call may change.
 const BEHIND: usize = 2;
 const TOO_FEW_ROWS: u64 = 14;
+/// The place, three figures' digits, three counts, and whether the lower and the upper figure are exact.
+const VALUES: usize = 9;
 
 /// A figure as the library writes it.
 #[repr(C)]
@@ -78,18 +80,18 @@ fn shown(Figure { digits, power }: Figure) -> String {
     }
 }
 
-/// What the numbers say, all of them: two answers that differ in one print otherwise.
-fn text_of(number: u64, values: [u64; 7], powers: [i32; 3]) -> String {
-    let [place, lower, upper, cut, deaths, cuts, steps] = values;
+/// What the numbers say, all of them: two answers that differ in one print otherwise, and a mark that is neither 0 nor 1 prints as no digit of an answer.
+fn text_of(number: u64, values: [u64; VALUES], powers: [i32; 3]) -> String {
+    let [place, lower, upper, cut, deaths, cuts, steps, lower_exact, upper_exact] = values;
     let figure = |digits, at: usize| shown(Figure { digits, power: powers[at] });
     match number {
         0 if place == 0 => format!(
-            "lower {}\nupper {}\ncut {}\ndeaths {deaths}\ncuts {cuts}\nsteps {steps}\n",
+            "lower {}\nupper {}\ncut {}\ndeaths {deaths}\ncuts {cuts}\nsteps {steps}\nexact {lower_exact}{upper_exact}\n",
             figure(lower, 0),
             figure(upper, 1),
             figure(cut, 2)
         ),
-        1.. if values[1..] == [0; 6] && powers == [0; 3] => {
+        1.. if values[1..] == [0; VALUES - 1] && powers == [0; 3] => {
             format!("refused {number} at {place}\n")
         }
         _ => format!("{number} with {values:?} and {powers:?}\n"),
@@ -113,7 +115,7 @@ fn text_of_rows(rows: &[Row]) -> String {
 /// a comparison tries all.
 fn answer(Record { budget, rows: row_count, words }: &Record) -> String {
     let mut rows: Vec<Row> = (0..row_count + BEHIND).map(lent).collect();
-    let (mut values, mut powers) = ([7; 7], [7; 3]);
+    let (mut values, mut powers) = ([7; VALUES], [7; 3]);
     // SAFETY: each pointer and its length belong together, both arrays have the lengths that the header states, and none overlaps another.
     let number = unsafe {
         bounds_assess_rows(

@@ -6,8 +6,11 @@
 //! assert_eq!(report.upper.to_string(), "1.00000000E-3");
 //! let limit: bounds::Figure = "1E-3".parse()?;
 //! assert!(report.upper.at_or_below(limit)?);
+//! assert!(report.lower_exact && report.upper_exact);
 //! # Ok::<(), Box<dyn std::error::Error>>(())
 //! ```
+//!
+//! The last line asks whether the figures are the very sums: no rounding that they rest on lost anything. `false` would claim nothing.
 //!
 //! Which failure dominates, [`assess_rows`] says: a row for each state without exits.
 //!

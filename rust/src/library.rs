@@ -3,7 +3,7 @@
 use crate::text::{self, Text};
 use crate::{rows, version, Error, Figure, Reason, Refusal, Report, Row, MOST_ROWS, WORDS_SIZE};
 
-const VALUES: usize = 7;
+const VALUES: usize = 9;
 const POWERS: usize = 3;
 
 extern "C" {
@@ -82,7 +82,7 @@ pub fn assess_rows<'a>(
 
 /// What the library's numbers say. Only 0 is a report.
 fn answer(number: u64, values: [u64; VALUES], powers: [i32; POWERS]) -> Result<Report, Error> {
-    let [place, lower, upper, cut, deaths, cuts, steps] = values;
+    let [place, lower, upper, cut, deaths, cuts, steps, lower_exact, upper_exact] = values;
     if number != 0 {
         return Err(match Reason::of(number) {
             Some(reason) => Error::Refused(Refusal { reason, place }),
@@ -97,7 +97,18 @@ fn answer(number: u64, values: [u64; VALUES], powers: [i32; POWERS]) -> Result<R
         deaths,
         cuts,
         steps,
+        lower_exact: mark(lower_exact)?,
+        upper_exact: mark(upper_exact)?,
     })
+}
+
+/// Whether nothing was lost. A mark is 0 or 1.
+fn mark(value: u64) -> Result<bool, Error> {
+    match value {
+        1 => Ok(true),
+        0 => Ok(false),
+        _ => Err(Error::Unexpected("a mark that is neither 0 nor 1")),
+    }
 }
 
 /// What the report program prints for the words, under this budget.
@@ -143,7 +154,7 @@ mod tests {
     use std::format;
     use std::string::ToString;
 
-    const VALUES_A: [u64; VALUES] = [0, 999_500_000, 100_000_000, 0, 1, 0, 1];
+    const VALUES_A: [u64; VALUES] = [0, 999_500_000, 100_000_000, 0, 1, 0, 1, 1, 1];
     const POWERS_A: [i32; POWERS] = [-12, -11, 0];
 
     /// Only 0 is a report, whatever the buffers hold. A number that is not known is an error of its own that carries it.
@@ -177,6 +188,24 @@ mod tests {
             let mut values = VALUES_A;
             values[place] = 7;
             assert_eq!(answer(0, values, POWERS_A), Err(Error::Unexpected("no figure")), "{place}");
+        }
+    }
+
+    /// Each mark stands in its own place, and only 0 and 1 are marks.
+    #[test]
+    fn what_is_no_mark() {
+        for (lower, upper) in [(0, 0), (0, 1), (1, 0), (1, 1)] {
+            let mut values = VALUES_A;
+            (values[7], values[8]) = (lower, upper);
+            let marks = answer(0, values, POWERS_A).map(|r| (r.lower_exact, r.upper_exact));
+            assert_eq!(marks, Ok((lower == 1, upper == 1)));
+        }
+        for value in (2..=64).chain([256, 1 << 32 | 1, u64::MAX]) {
+            for place in [7, 8] {
+                let mut values = VALUES_A;
+                values[place] = value;
+                assert!(answer(0, values, POWERS_A).is_err(), "{value}");
+            }
         }
     }
 

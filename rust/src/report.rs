@@ -14,9 +14,13 @@ pub struct Report {
     pub deaths: u64,
     pub cuts: u64,
     pub steps: u64,
+    /// `lower` equals the exact lower sum, since no rounding that it rests on lost anything. `false` claims nothing: the two may still be equal.
+    pub lower_exact: bool,
+    /// The same of `upper` and the exact upper sum.
+    pub upper_exact: bool,
 }
 
-/// The report program's six lines, without a newline behind the last.
+/// The report program's seven lines, without a newline behind the last.
 impl fmt::Display for Report {
     fn fmt(&self, out: &mut fmt::Formatter<'_>) -> fmt::Result {
         writeln!(out, "lower {}", self.lower)?;
@@ -24,6 +28,7 @@ impl fmt::Display for Report {
         writeln!(out, "cut {}", self.cut)?;
         writeln!(out, "deaths {}", self.deaths)?;
         writeln!(out, "cuts {}", self.cuts)?;
-        write!(out, "steps {}", self.steps)
+        writeln!(out, "steps {}", self.steps)?;
+        write!(out, "exact {}{}", u8::from(self.lower_exact), u8::from(self.upper_exact))
     }
 }

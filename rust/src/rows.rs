@@ -64,7 +64,16 @@ mod tests {
 
     fn report() -> Result<Report, Error> {
         let zero = Figure::ZERO;
-        Ok(Report { lower: zero, upper: zero, cut: zero, deaths: 0, cuts: 0, steps: 0 })
+        Ok(Report {
+            lower: zero,
+            upper: zero,
+            cut: zero,
+            deaths: 0,
+            cuts: 0,
+            steps: 0,
+            lower_exact: true,
+            upper_exact: true,
+        })
     }
 
     fn row(state: u64) -> Row {

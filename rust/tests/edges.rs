@@ -11,7 +11,8 @@ use bounds::{
 const MODEL_A: [u32; 7] =
     [0x11002001, 0x2000000A, 0x30000000, 0x41801000, 0x50001002, 0x60400001, 0xF0000000];
 
-const REPORT_A: &str = "lower 9.99500000E-4\nupper 1.00000000E-3\ncut 0\ndeaths 1\ncuts 0\nsteps 1";
+const REPORT_A: &str =
+    "lower 9.99500000E-4\nupper 1.00000000E-3\ncut 0\ndeaths 1\ncuts 0\nsteps 1\nexact 11";
 
 #[test]
 fn model_a() -> Result<(), NoReport> {
@@ -19,6 +20,7 @@ fn model_a() -> Result<(), NoReport> {
     assert_eq!(report.to_string(), REPORT_A);
     assert_eq!(Some(report.lower), Figure::new(999_500_000, -12));
     assert_eq!((report.deaths, report.cuts, report.steps), (1, 0, 1));
+    assert!(report.lower_exact && report.upper_exact);
     assert_eq!(bounds::assess(&MODEL_A, 1)?, report);
     Ok(())
 }

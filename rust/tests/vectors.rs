@@ -74,7 +74,7 @@ fn check_file(
 
 #[test]
 fn expected_answers() -> Result<(), Box<dyn Error>> {
-    assert_eq!(check_file("models.txt", check)?, 417);
+    assert_eq!(check_file("models.txt", check)?, 710);
     assert_eq!(check_file("papers.txt", check)?, 98);
     Ok(())
 }

@@ -21,7 +21,8 @@ static int put_answer(char *to, size_t room, bounds_answer a)
     int n = put_figure(to, room, "lower", a.lower);
     n += put_figure(to + n, room - (size_t)n, "upper", a.upper);
     n += put_figure(to + n, room - (size_t)n, "cut", a.cut);
-    return n + snprintf(to + n, room - (size_t)n, "deaths %" PRIu64 "\ncuts %" PRIu64 "\nsteps %" PRIu64 "\n", a.deaths, a.cuts, a.steps);
+    n += snprintf(to + n, room - (size_t)n, "deaths %" PRIu64 "\ncuts %" PRIu64 "\nsteps %" PRIu64 "\n", a.deaths, a.cuts, a.steps);
+    return n + snprintf(to + n, room - (size_t)n, "exact %d%d\n", a.lower_exact, a.upper_exact);
 }
 
 #endif

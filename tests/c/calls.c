@@ -56,6 +56,8 @@ static void check_assess(const model *m, const uint32_t *words, size_t count)
     if (refusal == BOUNDS_REPORTED) {
         if (values[BOUNDS_PLACE] != 0)
             fail("a report with a place", m->name);
+        if (values[BOUNDS_LOWER_EXACT] > 1 || values[BOUNDS_UPPER_EXACT] > 1)
+            fail("a mark that is neither 0 nor 1", m->name);
         return;
     }
     for (int i = 1; i < BOUNDS_VALUES; i++)
@@ -128,7 +130,7 @@ static void set(model *m, const char *name, uint64_t budget, size_t words, const
         m->bytes[i] = (uint8_t)(model_a[i / 4] >> (8 * (i % 4)));
 }
 
-static const char REPORT_A[] = "lower 9.99500000E-4\nupper 1.00000000E-3\ncut 0\ndeaths 1\ncuts 0\nsteps 1\n";
+static const char REPORT_A[] = "lower 9.99500000E-4\nupper 1.00000000E-3\ncut 0\ndeaths 1\ncuts 0\nsteps 1\nexact 11\n";
 
 static void check_edges(void)
 {
@@ -180,6 +182,24 @@ static void check_sentences(void)
         fail("a sentence with its place", "bounds_sentence_at");
     if (strcmp(bounds_sentence_at(BOUNDS_OTHER_VERSION, 0, text), unknown) == 0)
         fail("another version", "bounds_sentence_at");
+}
+
+/* Only 1 is a claim. */
+static void check_marks(void)
+{
+    static const uint64_t none[] = { 0, 2, 256, (uint64_t)1 << 32 | 1, UINT64_MAX };
+    const int32_t powers[BOUNDS_POWERS] = { 0 };
+    uint64_t values[BOUNDS_VALUES] = { 0 };
+    for (size_t i = 0; i < sizeof none / sizeof none[0]; i++) {
+        values[BOUNDS_LOWER_EXACT] = 1;
+        values[BOUNDS_UPPER_EXACT] = none[i];
+        bounds_answer answer = bounds_answer_of(BOUNDS_REPORTED, values, powers);
+        values[BOUNDS_LOWER_EXACT] = none[i];
+        values[BOUNDS_UPPER_EXACT] = 1;
+        bounds_answer other = bounds_answer_of(BOUNDS_REPORTED, values, powers);
+        if (answer.lower_exact != 1 || answer.upper_exact != 0 || other.lower_exact != 0 || other.upper_exact != 1)
+            fail("a mark that is not 1", "bounds_answer_of");
+    }
 }
 
 static void check_version(void)
@@ -259,6 +279,7 @@ int main(int count, char **arguments)
     program = arguments[1];
     check_version();
     check_sentences();
+    check_marks();
     check_order();
     check_edges();
     check_threads();

@@ -103,7 +103,8 @@ static void check_lent(const model *m, size_t needed)
             check_unchanged_from(needed, m->name);
             continue;
         }
-        if (answer.refusal != BOUNDS_TOO_FEW_ROWS || answer.place != needed || answer.upper.digits != 0 || answer.steps != 0)
+        if (answer.refusal != BOUNDS_TOO_FEW_ROWS || answer.place != needed || answer.upper.digits != 0 || answer.steps != 0 ||
+            answer.lower_exact != 0 || answer.upper_exact != 0)
             fail("fewer rows than are needed", m->name);
         check_unchanged_from(0, m->name);
     }

@@ -1,7 +1,8 @@
 /*
- * A stand-in for the library, for what the doors do with a version, a refusal or a row that they do not know. BOUNDS_STUB_VERSION is the version that
- * it says it is of, BOUNDS_STUB_REFUSAL the number that it refuses by; unless BOUNDS_STUB_STATE is 0, the first row is of that state, with
- * BOUNDS_STUB_DIGITS in both figures. Where the version is another than the header's, nothing else may be called: the program is ended.
+ * A stand-in for the library, for what the doors do with a version, a refusal, a row or a mark that they do not know. BOUNDS_STUB_VERSION is the
+ * version that it says it is of, BOUNDS_STUB_REFUSAL the number that it refuses by; BOUNDS_STUB_LOWER_EXACT and BOUNDS_STUB_UPPER_EXACT are the marks;
+ * unless BOUNDS_STUB_STATE is 0, the first row is of that state, with BOUNDS_STUB_DIGITS in both figures. Where the version is another than the
+ * header's, nothing else may be called: the program is ended.
  */
 #include "../../include/bounds.h"
 #include <stdio.h>
@@ -33,6 +34,8 @@ uint64_t bounds_assess(const uint32_t *words, size_t count, uint64_t budget, uin
     memset(values, 0, BOUNDS_VALUES * sizeof *values);
     memset(powers, 0, BOUNDS_POWERS * sizeof *powers);
     values[BOUNDS_PLACE] = 5;
+    values[BOUNDS_LOWER_EXACT] = number("BOUNDS_STUB_LOWER_EXACT");
+    values[BOUNDS_UPPER_EXACT] = number("BOUNDS_STUB_UPPER_EXACT");
     return number("BOUNDS_STUB_REFUSAL");
 }
 

@@ -1,4 +1,4 @@
-//! Times two builds of the proved library on the large trees in one run: how much a change costs. `bench/ratio BEFORE.a AFTER.a` makes a shared library
+//! Times two builds of the proved library on the large trees, and on one whose figures stay exact, in one run: how much a change costs. `bench/ratio BEFORE.a AFTER.a` makes a shared library
 //! of each archive and calls this with the two.
 
 #[allow(dead_code)]
@@ -16,6 +16,7 @@ const LEAST_RUNS: usize = 15;
 const LEAST_TIME: Duration = Duration::from_millis(1_500);
 /// More values than any build writes.
 const ROOM: usize = 64;
+/// The values up to here are compared: those behind it are not in every build.
 const STEPS_AT: usize = 6;
 const RTLD_NOW: c_int = 2;
 
@@ -64,7 +65,7 @@ fn main() {
     let (before, after) = (loaded(before), loaded(after));
     println!("| model | steps | before, ns a step | after, ns a step | after / before |");
     println!("| --- | ---: | ---: | ---: | ---: |");
-    for case in models::trees() {
+    for case in models::trees().into_iter().chain(models::exact()) {
         let words = case.words.as_slice();
         let (first, second) = (call(before, words), call(after, words));
         assert_eq!(

@@ -1,5 +1,5 @@
 //! The proved library's algorithm as it would be written in Rust: the same reading, tables, walk, totals of rows and sharing among deaths, without
-//! proofs.
+//! proofs and without marks (the line `exact`).
 //!
 //! Arrays are changed in place and lent by reference where the proved library carries them by value.
 
@@ -79,7 +79,7 @@ mod tests {
     }
 
     /// The models with expected answers: a line is a name, a budget, maybe the number of rows lent, words of eight hexadecimal digits and the answer,
-    /// with `|` for line ends and `=` for spaces. Words that end in `-`, left-over bytes, are left out.
+    /// with `|` for line ends and `=` for spaces. Words that end in `-`, left-over bytes, are left out, and so are the marks of an answer.
     fn check_file(name: &str) -> Result<usize, Box<dyn Error>> {
         let data = Path::new(env!("CARGO_MANIFEST_DIR")).join("../reference/tests/data").join(name);
         let mut seen = 0;
@@ -98,7 +98,7 @@ mod tests {
                 .step_by(8)
                 .map(|at| u32::from_str_radix(&hex[at..at + 8], 16))
                 .collect();
-            let expected = expected.replace('|', "\n").replace('=', " ");
+            let expected = crate::without_marks(&expected.replace('|', "\n").replace('=', " "));
             let (words, budget) = (words?, budget.parse()?);
             let shown = match lent {
                 Some(lent) => answer(&words, budget, lent.parse()?),
@@ -112,7 +112,7 @@ mod tests {
 
     #[test]
     fn expected_answers() -> Result<(), Box<dyn Error>> {
-        assert!(check_file("models.txt")? + check_file("papers.txt")? > 500);
+        assert!(check_file("models.txt")? + check_file("papers.txt")? > 800);
         assert_eq!(check_file("rows.txt")?, 60);
         Ok(())
     }

@@ -13,8 +13,9 @@ pub const SUBCOMMAND: Subcommand = Subcommand {
     summary: "the report on a model, or why it is refused",
     help: "usage: bounds report FILE [--budget N] [--at-most FIGURE] [--json] [--as lines|digits|bytes]
 
-Prints the report on a model: six lines as the report program prints them. A model that is refused is answered by the refusal, a sentence on it, the
-lines of the file that it speaks of, and what to look at.
+Prints the report on a model: seven lines as the report program prints them. The last has two digits, for lower and for upper: 1 where no rounding
+that the figure rests on lost anything, so that it equals its exact sum; 0 claims nothing. A model that is refused is answered by the refusal, a
+sentence on it, the lines of the file that it speaks of, and what to look at.
 
 FILE              a model in readable lines, or its words as hexadecimal digits or as bytes; - is standard input
 --budget N        the most steps that the walk may take, 1 to 1,000,000; without it 1,000,000
@@ -77,5 +78,7 @@ pub fn fields(report: &Report) -> Vec<(&'static str, String)> {
         ("deaths", report.deaths.to_string()),
         ("cuts", report.cuts.to_string()),
         ("steps", report.steps.to_string()),
+        ("lower_exact", report.lower_exact.to_string()),
+        ("upper_exact", report.upper_exact.to_string()),
     ]
 }

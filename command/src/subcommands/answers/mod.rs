@@ -80,7 +80,7 @@ mod tests {
 
     const CASE_A: &str = "report budget=1000000 words=11002001,2000000A,30000000,41801000,50001002,60400001,F0000000";
     const REPORT_A: &str =
-        "lower 9.99500000E-4\nupper 1.00000000E-3\ncut 0\ndeaths 1\ncuts 0\nsteps 1";
+        "lower 9.99500000E-4\nupper 1.00000000E-3\ncut 0\ndeaths 1\ncuts 0\nsteps 1\nexact 11";
 
     fn answered(line: &str) -> String {
         answer(line.as_bytes()).unwrap_or_else(|why| format!("error: {why}"))

@@ -19,8 +19,9 @@ pub const SUBCOMMAND: Subcommand = Subcommand {
     summary: "a model over several values of one of its numbers",
     help: "usage: bounds sweep FILE AXIS [--budget N] [--svg OUT] [--as lines|digits|bytes]
 
-Prints a table with one row for each value, and with --svg writes a plot of lower and upper over them. FILE is as for `bounds report`. Its own value
-of what is swept must stand in it and be readable too; the rows have the given values in its place. OUT is another file than FILE. AXIS is one of
+Prints a table with one row for each value, a column for each line of a report, and with --svg writes a plot of lower and upper over them. FILE is as
+for `bounds report`. Its own value of what is swept must stand in it and be readable too; the rows have the given values in its place. OUT is another
+file than FILE. AXIS is one of
 
 --time 1,10,100           the mission time T
 --prune 0,1e-9,1e-6       the prune level P
@@ -116,6 +117,7 @@ fn table(axis: &Axis, points: &[Point], answers: &[Answer]) -> String {
         "deaths".into(),
         "cuts".into(),
         "steps".into(),
+        "exact".into(),
     ];
     let mut rows = vec![head.to_vec()];
     for (point, answer) in points.iter().zip(answers) {
@@ -124,6 +126,7 @@ fn table(axis: &Axis, points: &[Point], answers: &[Answer]) -> String {
             Ok(r) => {
                 row.extend([r.lower, r.upper, r.cut].map(|figure| figure.to_string()));
                 row.extend([r.deaths, r.cuts, r.steps].map(|count| count.to_string()));
+                row.push(format!("{}{}", u8::from(r.lower_exact), u8::from(r.upper_exact)));
             }
             Err(refusal) => row.push(refusal.to_string()),
         }

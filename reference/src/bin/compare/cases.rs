@@ -3,9 +3,11 @@
 use crate::damage::{damage_draft, damage_words, random_word};
 use crate::draft::Draft;
 use crate::edges;
+use crate::lossless;
 use crate::quantities::{Taste, TASTES};
 use crate::random::Random;
 use crate::shapes::SHAPES;
+use crate::varied;
 use reference::stream::Record;
 use reference::{assess, rows, words, Answer, MOST_STEPS, ROWS_LENT};
 
@@ -23,7 +25,7 @@ struct Asked {
 type Maker = fn(&mut Random) -> Asked;
 
 /// How often each kind comes, in thousandths or so; the shapes share what is left.
-const KINDS: [(u64, &str, Maker); 15] = [
+const KINDS: [(u64, &str, Maker); 18] = [
     (120, "budget at, one below, one above", at_budget),
     (60, "quantities at both ends", |random| shaped(random, Some(Taste::Ends))),
     (80, "prune level at or near U", |random| usual(random, edges::prune_near_upper)),
@@ -38,6 +40,9 @@ const KINDS: [(u64, &str, Maker); 15] = [
     (10, "budget out of range", out_of_range_budget),
     (3, "4,000 transitions and one more", full_table),
     (1, "budget of 1,000,000", whole_budget),
+    (60, "nearly lossless", |random| usual(random, lossless::nearly_lossless)),
+    (30, "one operation loses", |random| usual(random, lossless::one_loss)),
+    (50, "one operation loses, from data", |random| usual(random, varied::varied)),
     (2, "hundreds of rows", |random| usual(random, edges::hundreds_of_rows)),
 ];
 

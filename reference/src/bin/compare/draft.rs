@@ -96,7 +96,7 @@ impl Draft {
         if fast_to.is_empty() {
             return;
         }
-        let shares = probabilities(random, fast_to.len());
+        let shares = probabilities(random, taste, fast_to.len());
         for (&to, share) in fast_to.iter().zip(shares) {
             let mean = taste.mean(random, self.time);
             let deviation = taste.deviation(random, mean);

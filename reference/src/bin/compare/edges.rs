@@ -5,6 +5,7 @@ use crate::quantities::{quantity, Taste, TASTES};
 use crate::random::Random;
 use crate::shapes::{self, Shape};
 use reference::figure::Figure;
+use reference::marked::MarkedFigure;
 use reference::model::Quantity;
 use reference::steps::Figures;
 use reference::walk::{walk, End, Watcher};
@@ -14,9 +15,9 @@ use reference::walk::{walk, End, Watcher};
 struct CutUppers(Vec<Figure>);
 
 impl Watcher for CutUppers {
-    fn ended(&mut self, end: End, _path: &[usize], upper: Figure) {
+    fn ended(&mut self, end: End, _path: &[usize], upper: MarkedFigure) {
         if end == End::Cut {
-            self.0.push(upper);
+            self.0.push(upper.value);
         }
     }
 }

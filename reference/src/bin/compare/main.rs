@@ -4,11 +4,13 @@ mod cases;
 mod damage;
 mod draft;
 mod edges;
+mod lossless;
 mod options;
 mod quantities;
 mod random;
 mod shapes;
 mod tally;
+mod varied;
 
 use cases::{case, Case};
 use options::Options;
@@ -194,6 +196,7 @@ fn check_accuracy(
         })?;
     }
     tally.accurate += 1;
+    tally.count_exact(report);
     tally.accurate_rows += expected.rows.len() as u64;
     tally.exact_paths += paths;
     Ok(())
@@ -213,7 +216,7 @@ fn describe(options: &Options, trouble: &Trouble) {
             println!("independent implementation:\n{expected}\nthe other program:\n{found}");
         }
         Trouble::Inaccurate { number, answer, breach } => {
-            println!("accuracy rule broken: {breach}");
+            println!("accuracy rule or digit broken: {breach}");
             describe_model(options, *number);
             println!("answer:\n{answer}");
         }

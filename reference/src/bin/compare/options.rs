@@ -19,7 +19,7 @@ Compares the answers of PROGRAM with those of the independent implementation.
   --seed S     which models are made (1)
   --first I    the number of the first model (0)
   --count N    how many models (100000)
-  --accuracy   checks the accuracy rule on each reported model as well
+  --accuracy   checks the accuracy rule and the two digits on each reported model as well
   --paths N    only where there are at most so many ended paths (20000)
 What follows -- is handed to PROGRAM.";
 

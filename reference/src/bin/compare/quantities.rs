@@ -10,6 +10,9 @@ pub enum Taste {
     Tame,
     /// As tame, but with one digit each, so that many results are exact.
     Round,
+    /// One digit or a few, means in a plain ratio to the mission time, deviations mostly 0: most
+    /// operations lose nothing.
+    Plain,
     /// Means about as long as the mission, so that the grains run out.
     Coarse,
     /// Any coefficient and any scale.
@@ -18,8 +21,16 @@ pub enum Taste {
     Ends,
 }
 
-pub const TASTES: [Taste; 7] =
-    [Taste::Tame, Taste::Tame, Taste::Tame, Taste::Round, Taste::Coarse, Taste::Wild, Taste::Ends];
+pub const TASTES: [Taste; 8] = [
+    Taste::Tame,
+    Taste::Tame,
+    Taste::Tame,
+    Taste::Round,
+    Taste::Plain,
+    Taste::Coarse,
+    Taste::Wild,
+    Taste::Ends,
+];
 
 pub fn quantity(coefficient: u32, scale: u32) -> Quantity {
     Quantity { coefficient, scale }
@@ -70,6 +81,7 @@ impl Taste {
         match self {
             Taste::Ends => ends(random),
             Taste::Wild => wild(random),
+            Taste::Plain => plain_time(random),
             _ => {
                 let (exponent, digits) = (random.between(-2, 4) as i32, self.digits(random));
                 about(random, exponent, digits)
@@ -82,6 +94,10 @@ impl Taste {
         match self {
             Taste::Ends => ends(random),
             Taste::Wild => wild(random),
+            Taste::Plain => {
+                let exponent = random.pick(&[-5, -4, -3, -2, -2, -1, 0, 1]) - magnitude(time);
+                plain(random.pick(&[1, 1, 2, 3, 4, 5, 6, 8, 9]), exponent)
+            }
             _ => {
                 let exponent = random.between(-7, -1) as i32 - magnitude(time);
                 let digits = self.digits(random);
@@ -95,6 +111,11 @@ impl Taste {
         let (low, high) = match self {
             Taste::Ends => return ends(random),
             Taste::Wild => return wild(random),
+            Taste::Plain => {
+                let times = random.pick(&[1, 1, 2, 3, 4, 5, 7]);
+                let exponent = -random.pick(&[0, 2, 4, 5, 8, 9, 9, 10, 12]);
+                return plain(times * time.coefficient, exponent - time.scale as i32);
+            }
             Taste::Coarse => (-2, 0),
             _ => (-9, -3),
         };
@@ -107,6 +128,10 @@ impl Taste {
     pub fn deviation(self, random: &mut Random, mean: Quantity) -> Quantity {
         match (random.size(0, 3), self) {
             (0, _) => quantity(0, random.word(0, 20)),
+            (1, Taste::Plain) => quantity(0, 0),
+            (2, Taste::Plain) if mean.coefficient < 500_000 => {
+                quantity(2 * mean.coefficient, mean.scale)
+            }
             (1, Taste::Ends) => ends(random),
             (1, Taste::Wild) => wild(random),
             (1, _) => {
@@ -119,13 +144,35 @@ impl Taste {
     }
 }
 
+/// coefficient × 10^exponent, if a scale of 0 to 20 and six digits have it, or about that.
+fn plain(coefficient: u32, exponent: i32) -> Quantity {
+    let (mut coefficient, mut exponent) = (coefficient.min(999_999), exponent);
+    while exponent > 0 && coefficient < 100_000 {
+        coefficient *= 10;
+        exponent -= 1;
+    }
+    quantity(coefficient, exponent.clamp(-20, 0).unsigned_abs())
+}
+
+/// A power of ten most of the time, one digit, or four whose square fits a figure.
+fn plain_time(random: &mut Random) -> Quantity {
+    let coefficient = match random.size(0, 7) {
+        0 => random.word(2, 9),
+        1 => random.pick(&[16, 25, 64, 125, 625, 1_024, 1_234, 2_048]),
+        _ => 1,
+    };
+    plain(coefficient, random.between(-3, 2) as i32)
+}
+
 /// So many probabilities (1 to 16) that sum to exactly 1, in random order.
-pub fn probabilities(random: &mut Random, number: usize) -> Vec<Quantity> {
+pub fn probabilities(random: &mut Random, taste: Taste, number: usize) -> Vec<Quantity> {
     if number == 1 {
         let scale = random.word(0, 5);
         return vec![quantity(10u32.pow(scale), scale)];
     }
-    let mut parts = if number > 2 && random.once_in(3) {
+    let mut parts = if taste == Taste::Plain && number < 10 {
+        parts_of(random, 10, number, 1)
+    } else if number > 2 && random.once_in(3) {
         // The last part of a millionth is parted once more, to twelve places.
         let mut parts = parts_of(random, 999_999, number - 2, 6);
         parts.extend(parts_of(random, 1_000_000, 2, 12));

@@ -1,6 +1,6 @@
 //! Counts of what was compared, by kind of model and by answer.
 
-use reference::{Answer, Row};
+use reference::{Answer, Report, Row};
 use std::collections::BTreeMap;
 use std::fmt;
 
@@ -20,6 +20,11 @@ pub struct Tally {
     /// Ended paths in the reports that were checked.
     pub exact_paths: u64,
     pub lower_above_zero: u64,
+    /// Reports by their two digits: 00, 01, 10 and 11.
+    digits: [u64; 4],
+    /// Digits 1 that were found to stand beside the exact sum: of lowers, of lowers above zero, and
+    /// of uppers.
+    pub exact_digits: [u64; 3],
     pub steps: u64,
     /// Reports with rows filled, their rows, and those of states where no path died.
     pub with_rows: u64,
@@ -37,11 +42,22 @@ impl Tally {
             Answer::Report(report) => {
                 self.steps += report.counts.steps;
                 self.lower_above_zero += u64::from(!report.lower.is_zero());
+                let [lower, upper] = answer.exact().map(usize::from);
+                self.digits[2 * lower + upper] += 1;
                 0
             }
             Answer::Refused(refusal) => refusal.number,
         };
         *self.rows.entry(kind).or_default().entry(number).or_default() += 1;
+    }
+
+    /// Counts the digits 1 of a report that was checked in exact fractions.
+    pub fn count_exact(&mut self, report: &Report) {
+        let above = report.lower_exact && !report.lower.is_zero();
+        let digits = [report.lower_exact, above, report.upper_exact];
+        for (count, digit) in self.exact_digits.iter_mut().zip(digits) {
+            *count += u64::from(digit);
+        }
     }
 
     /// Counts what became of so many rows lent.
@@ -89,6 +105,8 @@ impl fmt::Display for Tally {
         writeln!(out)?;
         writeln!(out, "steps in the reports: {}", self.steps)?;
         writeln!(out, "reports with a lower figure above zero: {}", self.lower_above_zero)?;
+        let [none, upper, lower, both] = self.digits;
+        writeln!(out, "digits 00, 01, 10, 11: {none} {upper} {lower} {both}")?;
         let (reports, filled, deathless) = (self.with_rows, self.filled, self.deathless);
         writeln!(out, "rows filled: {filled} in {reports} reports, {deathless} without a death")?;
         writeln!(out, "rows of zeros on refusal 13: {} answers", self.thirteen_with_rows)?;
@@ -97,6 +115,9 @@ impl fmt::Display for Tally {
             let (checked, paths) = (self.accurate, self.exact_paths);
             writeln!(out, "accuracy rule held on {checked} reports of {paths} ended paths")?;
             writeln!(out, "and on {} rows of them", self.accurate_rows)?;
+            let [lower, above, upper] = self.exact_digits;
+            write!(out, "exact sums by a digit of one: {upper} uppers and ")?;
+            writeln!(out, "{lower} lowers, {above} of these above zero")?;
             writeln!(out, "reports of too many paths to check: {}", self.too_many_paths)?;
         }
         Ok(())
