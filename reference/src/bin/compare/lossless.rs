@@ -66,15 +66,18 @@ pub fn one_long_quantity(random: &mut Random, draft: &mut Draft) {
 type Edge = fn(&mut Random) -> Draft;
 
 /// Models in which a certain operation alone loses something.
-const EDGES: [Edge; 10] = [
+const EDGES: [Edge; 13] = [
     time_alone,
     grains_squared_alone,
+    grain_time_square_alone,
     time_square_alone,
     lower_addition_alone,
     cut_figure_alone,
     hold_alone,
+    competing_rate_alone,
     product_of_zero,
     full_grains,
+    grain_of_full_alone,
     fast_sum_alone,
     slow_sum_alone,
 ];
@@ -116,6 +119,15 @@ fn grains_squared_alone(random: &mut Random) -> Draft {
         (mean, deviation) = (deviation, mean);
     }
     recovery(quantity(1, scale), mean, deviation)
+}
+
+/// n² × T2, where T is 2 and n 17,001 or 18,001: M / (n² × T2) ends early once its divisor, of ten
+/// digits, has lost the last one.
+fn grain_time_square_alone(random: &mut Random) -> Draft {
+    let scale = random.word(0, 6);
+    let (mean, deviation) =
+        random.pick(&[(466, 3_100), (3_100, 466), (1_836, 2_880), (2_880, 1_836)]);
+    recovery(quantity(2, scale), quantity(mean, scale + 6), quantity(deviation, scale + 6))
 }
 
 /// T2, where T is 40,002 and its square 1,600,160,004: M is 0.80008, so that n is 1,000.
@@ -173,6 +185,17 @@ fn hold_alone(random: &mut Random) -> Draft {
     draft
 }
 
+/// U by the rate of a class 3 step, where h is 1. The sum of both uppers is below 1.
+fn competing_rate_alone(random: &mut Random) -> Draft {
+    let scale = random.word(0, 3);
+    let mut draft = Draft::new(4, quantity(10, scale));
+    draft.slow(1, 2, quantity(random.word(100_001, 110_000), 7 - scale));
+    draft.slow(2, 3, quantity(random.word(400_001, 799_999), 5));
+    draft.fast(2, 4, [one(), quantity(0, 0), one()]);
+    random.shuffle(&mut draft.transitions);
+    draft
+}
+
 /// A fast step whose factor is 0, then slow ones with something to lose.
 fn product_of_zero(random: &mut Random) -> Draft {
     let mut draft = Draft::new(5, quantity(random.pick(&[1, 10, 100]), 0));
@@ -222,4 +245,63 @@ fn full_grains(random: &mut Random) -> Draft {
         draft.transitions.remove(2);
     }
     draft
+}
+
+/// N' of 1,000,000 by a class 3 step, so that only its grains count, and of what they rest on one
+/// operation loses something. The fast exits are cut.
+fn grain_of_full_alone(random: &mut Random) -> Draft {
+    let scale = random.word(0, 4);
+    let (time, exits) = competing_alone(random, scale);
+    let mut draft = Draft::new(2 + exits.len(), time);
+    draft.step_limit = 1;
+    draft.slow(1, 2, quantity(1, random.word(2, 4)));
+    for (number, exit) in exits.into_iter().enumerate() {
+        draft.fast(1, 3 + number, exit);
+        draft.slow(3 + number, 1, one());
+    }
+    random.shuffle(&mut draft.transitions);
+    draft
+}
+
+/// Mission time, and mean, deviation and probability of fast exits: down(h' × T) loses something, a
+/// product or the sum of h', or a product or the sum of H.
+fn competing_alone(random: &mut Random, scale: u32) -> (Quantity, Vec<[Quantity; 3]>) {
+    let none = quantity(0, 0);
+    let of = |mean, deviation, share, places| {
+        [quantity(mean, scale), quantity(deviation, scale), quantity(share, places)]
+    };
+    let brief = quantity(1, scale + 5);
+    match random.word(0, 4) {
+        0 => {
+            // h' × T is at most 15 above 10,000,000,000
+            let pairs: [(u32, u32); 4] =
+                [(27_961, 357_641), (19_732, 506_791), (18_041, 554_293), (11_965, 835_771)];
+            let (mean, time) = random.pick(&pairs);
+            (quantity(time, scale + 9), vec![[quantity(mean, scale + 4), none, one()]])
+        }
+        1 => {
+            // each M is 10^8, and h' 9,765.625 once the first product has lost 8 × 10^-6
+            let rest = of(10_000, 0, 760_430, 6);
+            (brief, vec![of(8_432, 5_376, 118_619, 6), of(9_600, 2_800, 120_951, 6), rest])
+        }
+        2 => {
+            // h' is 1 and some 10^-9, and H has nine digits
+            let (mean, deviation) = random.pick(&[(1_004, 228), (1_008, 956), (1_008, 1_544)]);
+            let rare = [quantity(mean, scale + 3), quantity(deviation, scale + 3), quantity(1, 6)];
+            (brief, vec![of(1, 0, 999_999, 6), rare])
+        }
+        3 => {
+            // h' is 1, and q × M has eleven digits
+            let share = 10 * random.word(1, 9) + random.pick(&[1, 3, 7, 9]);
+            let deviation = quantity(random.word(10_001, 31_621), scale + 2);
+            let rare = [quantity(1, scale), deviation, quantity(share, 3)];
+            (brief, vec![rare, of(1, 0, 1_000 - share, 3)])
+        }
+        _ => {
+            // h' is 1, q × M has nine digits, the last a tenth, and the other exit adds hundredths
+            let share = random.pick(&[11, 13, 17, 19, 21, 23, 27, 29]);
+            let deviation = 10 * random.word(1_500, 1_700) + random.pick(&[3, 7]);
+            (brief, vec![of(1, deviation, share, 2), of(1, 0, 100 - share, 2)])
+        }
+    }
 }
