@@ -1,6 +1,6 @@
 -- Document 02, Item 2, "Say when nothing was rounded": small models with their two digits, in most of which a single operation of a kind loses
--- something, and one claim: that the definitions agree with all of them. The digits are those of a program of other hands, but for
--- four models with full grains. Assumes nothing: these are definitions.
+-- something, and one claim: that the definitions agree with all of them. The digits are those of a program of other hands, but for four models with full
+-- grains and seven that were made for one operation each. Assumes nothing: these are definitions.
 use Prim.Native.Nat.{ℕ}
 use mathlib.Core.Path.{_≡_}
 use mathlib.Core.Bool.{Bool, true, false}
@@ -148,6 +148,29 @@ mark-cases =
     -- the sum h
     ∷ case false false 0x11004001 0x20000001 0x41801000
     (0x70001003 ∷ 0x8058195C ∷ 0x90000000 ∷ 0xA0608953 ∷ 0x70001004 ∷ 0x800003E8 ∷ 0x90000000 ∷ 0xA06EB8ED ∷ 0x50001002 ∷ 0x60001388 ∷ [])
+    -- ---- operations that only a model made for them isolates
+    -- class 3: q × m in h', where N' is 1,000,000; the upper by h
+    ∷ case false false 0x11005001 0x20500001 0x40101000
+    (0x50001002 ∷ 0x60400001 ∷ 0x70001003 ∷ 0x800020F0 ∷ 0x90001500 ∷ 0xA061CF5B ∷ 0x70001004 ∷ 0x80002580 ∷ 0x90000AF0 ∷ 0xA061D877
+    ∷ 0x70001005 ∷ 0x80002710 ∷ 0x90000000 ∷ 0xA06B9A6E ∷ 0x50003001 ∷ 0x60300001 ∷ 0x50004001 ∷ 0x60300001 ∷ 0x50005001 ∷ 0x60300001 ∷ [])
+    -- class 3: the sum h', where N' is 1,000,000; the upper by h
+    ∷ case false false 0x11004001 0x20500001 0x40101000
+    (0x50001002 ∷ 0x60400001 ∷ 0x70001003 ∷ 0x80000001 ∷ 0x90000000 ∷ 0xA06F423F ∷ 0x70001004 ∷ 0x803003EC ∷ 0x903000E4 ∷ 0xA0600001
+    ∷ 0x50003001 ∷ 0x60300001 ∷ 0x50004001 ∷ 0x60300001 ∷ [])
+    -- class 3: h' × T, where N' is 1,000,000
+    ∷ case false true 0x11003001 0x20957509 0x40101000
+    (0x50001002 ∷ 0x60400001 ∷ 0x70001003 ∷ 0x80406D39 ∷ 0x90000000 ∷ 0xA0000001 ∷ 0x50003001 ∷ 0x60300001 ∷ [])
+    -- class 2: n² × T2
+    ∷ case false true 0x11002001 0x20000002 0x41801000 (0x70001002 ∷ 0x806001D2 ∷ 0x90600C1C ∷ 0xA0000001 ∷ [])
+    -- class 2: the sum y
+    ∷ case false true 0x11003001 0x200186A0 0x40101000
+    (0x50001003 ∷ 0x60030D40 ∷ 0x70001002 ∷ 0x80600001 ∷ 0x90000000 ∷ 0xA0000001 ∷ 0x50003001 ∷ 0x60000001 ∷ [])
+    -- class 3: the sum y
+    ∷ case false true 0x11003001 0x20061A80 0x40101000
+    (0x50001002 ∷ 0x6007A120 ∷ 0x70001003 ∷ 0x809003EA ∷ 0x90000000 ∷ 0xA0000001 ∷ 0x50003001 ∷ 0x60000001 ∷ [])
+    -- U, class 3: by the rate; the lower by more
+    ∷ case false false 0x11004001 0x2000000A 0x41801000
+    (0x50001002 ∷ 0x6071E241 ∷ 0x50002003 ∷ 0x6059FBF1 ∷ 0x70002004 ∷ 0x80000001 ∷ 0x90000000 ∷ 0xA0000001 ∷ [])
     -- ---- totals
     -- the lower total's eighteen digits; the upper's too
     ∷ case false false 0x11008001 0x20400001 0x41801000
