@@ -1,5 +1,5 @@
--- A model while its words are read: what holds of it as long as its table grows, and that each word that is let through keeps it so. The code's
--- reading stands on the same facts. Assumes nothing.
+-- A model while its words are read: what holds of it as long as its named states and its table grow, and that each word that is let through keeps it
+-- so. The code's reading stands on the same facts. Assumes nothing.
 use Prim.Native.Nat.{ℕ, _≤_, _<_}
 use mathlib.Core.Path.{_≡_, sym, _∙_}
 use mathlib.Core.Bool.{Bool, true, false, true≢false}
@@ -15,7 +15,7 @@ use Rattle.word.specs.Words.{kind, states-field, start-field, step-limit-field,
 use Rattle.word.specs.Words.{coefficient-field, quantity}
 use Rattle.word.specs.Faults.{Fault, outside, head-faults, quantity-faults, caps-faults, same-transition, transition-faults}
 use Rattle.word.specs.Internal.Lists.{Each}
-use Rattle.model.specs.Reading.{empty-model, with-transition}
+use Rattle.model.specs.Reading.{empty-model, with-named, with-transition}
 use Rattle.model.specs.Internal.Valid.{InRange, ValidManner, ValidTransition, SameTransition, Distinct}
 use Rattle.word.proofs.Members.{neither, each-monotone, each-append, each-one, any-none}
 use Rattle.word.proofs.Exits.{exits-more, exits-same, exits-fewer}
@@ -55,6 +55,23 @@ pub record Admitted (fast? : Bool) (m : Model) (a b : ℕ) : Type 0 where
   pub new : any (same-transition fast? a b) (m .net .table) ≡ false
   pub few-exits : length (exits-in (m .net .table) a) < 16
   pub few : length (m .net .table) < 4000
+
+-- ---- one state more that is named
+
+pub name-grows : (m : Model) (s : ℕ) → Growing m → Growing (with-named m s)
+name-grows m s g = record {
+  head = g .head;
+  time = g .time;
+  prune = g .prune;
+  steps-low = g .steps-low;
+  steps-high = g .steps-high;
+  entries-low = g .entries-low;
+  entries-high = g .entries-high;
+  table = g .table;
+  few = g .few;
+  few-exits = g .few-exits;
+  distinct = g .distinct;
+}
 
 -- ---- one transition more
 

@@ -6,19 +6,19 @@ use mathlib.Core.List.{List, [], _∷_}
 use native.Mathlib.Omega.{arith}
 use native.Mathlib.Decide.{ℕ-discrete}
 use Rattle.word.specs.Model.{slow, fast, Net, Model, exits, has-fast, probability-sum}
-use Rattle.word.specs.Words.{kind, quantity}
+use Rattle.word.specs.Words.{kind, named-field, quantity}
 use Rattle.word.specs.Faults.{Fault, quantity-faults}
 use Rattle.word.specs.Answer.{granted}
-use Rattle.model.specs.Reading.{Reader, at-head, at-time, at-prune, at-caps, at-transition, at-rate, at-mean, at-deviation, at-probability}
-use Rattle.model.specs.Reading.{after-end, Next, wrong, right, unless, next-transition, next, at-words-end, read-from, uneven, lowest-uneven}
-use Rattle.model.specs.Reading.{read}
+use Rattle.model.specs.Reading.{Reader, at-head, at-time, at-prune, at-caps, at-named, at-transition, at-rate, at-mean, at-deviation}
+use Rattle.model.specs.Reading.{at-probability, after-end, Next, wrong, right, unless, next-transition, next-named, next, at-words-end}
+use Rattle.model.specs.Reading.{read-from, uneven, lowest, read}
 use Rattle.model.specs.Internal.Valid.{InRange, ValidManner, ValidTransition, Valid}
 use Rattle.word.proofs.Members.{each-member}
 use Rattle.word.proofs.Exits.{exits-each, exits-leave, has-fast-member}
 use Rattle.word.proofs.Tests.{differs-false}
-use Rattle.model.proofs.Growing.{Head, Growing, Admitted, NoFault, grow, quantity-range, head-in, empty-grows, admit}
+use Rattle.model.proofs.Growing.{Head, Growing, Admitted, NoFault, name-grows, grow, quantity-range, head-in, empty-grows, admit}
 use Rattle.model.proofs.Refusals.{refused-not-granted, wrong-not-right, unless-right, next-slow, next-fast}
-use Rattle.model.proofs.Refusals.{next-end, next-other, read-wrong, read-right, lowest-none, read-granted}
+use Rattle.model.proofs.Refusals.{next-end, next-other, next-state, next-behind, read-wrong, read-right, lowest-none, read-granted}
 
 -- ---- what holds at each place
 
@@ -27,6 +27,7 @@ ReadSoFar at-head = Unit {0}
 ReadSoFar (at-time n s) = Head n s
 ReadSoFar (at-prune n s t) = Head n s × InRange 1 20 t
 ReadSoFar (at-caps n s t p) = Head n s × (InRange 1 20 t × InRange 0 20 p)
+ReadSoFar (at-named m) = Growing m
 ReadSoFar (at-transition m) = Growing m
 ReadSoFar (at-rate m a b) = Growing m × Admitted false m a b
 ReadSoFar (at-mean m a b) = Growing m × Admitted true m a b
@@ -50,12 +51,21 @@ transition-so-far m w r′ g e = go (ℕ-discrete (kind w) 5) (ℕ-discrete (kin
     go (no p) (no q) (yes r) = passed _ _ r′ (λ f. g) (sym (next-end m w r) ∙ e)
     go (no p) (no q) (no r) = absurd (wrong-not-right (sym (next-other m w p q r) ∙ e))
 
+named-so-far : (m : Model) (w : ℕ) (r′ : Reader) → Growing m → next-named m w ≡ right r′ → ReadSoFar r′
+unfolding ReadSoFar
+named-so-far m w r′ g e = go (ℕ-discrete (kind w) 12)
+  where
+    go : Dec (kind w ≡ 12) → ReadSoFar r′
+    go (yes p) = passed _ _ r′ (λ f. name-grows m (named-field w) g) (sym (next-state m w p) ∙ e)
+    go (no p) = transition-so-far m w r′ g (sym (next-behind m w p) ∙ e)
+
 next-so-far : (r : Reader) (w : ℕ) (r′ : Reader) → ReadSoFar r → next r w ≡ right r′ → ReadSoFar r′
 unfolding ReadSoFar next ValidManner
 next-so-far at-head w r′ h e = passed _ _ r′ (head-in w) e
 next-so-far (at-time n s) w r′ h e = passed _ _ r′ (λ f. (h, quantity-range 2 20 1 w f)) e
 next-so-far (at-prune n s t) w r′ h e = passed _ _ r′ (λ f. (h .0, (h .1, quantity-range 3 20 0 w f))) e
 next-so-far (at-caps n s t p) w r′ h e = passed _ _ r′ (λ f. empty-grows w n s t p f (h .0) (h .1 .0) (h .1 .1)) e
+next-so-far (at-named m) w r′ h e = named-so-far m w r′ h e
 next-so-far (at-transition m) w r′ h e = transition-so-far m w r′ h e
 next-so-far (at-rate m a b) w r′ h e =
     passed _ _ r′ (λ f. grow false m a b (slow (quantity w)) refl (quantity-range 6 20 1 w f) (h .0) (h .1)) e
@@ -74,6 +84,7 @@ end-so-far at-head i m h e = absurd (refused-not-granted e)
 end-so-far (at-time n s) i m h e = absurd (refused-not-granted e)
 end-so-far (at-prune n s t) i m h e = absurd (refused-not-granted e)
 end-so-far (at-caps n s t p) i m h e = absurd (refused-not-granted e)
+end-so-far (at-named k) i m h e = absurd (refused-not-granted e)
 end-so-far (at-transition k) i m h e = absurd (refused-not-granted e)
 end-so-far (at-rate k a b) i m h e = absurd (refused-not-granted e)
 end-so-far (at-mean k a b) i m h e = absurd (refused-not-granted e)
@@ -95,7 +106,7 @@ from-so-far (w ∷ ws) r i m h e = go (next r w) refl (λ r′. from-so-far ws r
 even-of : (net : Net) (s : ℕ) → uneven net s ≡ false → has-fast (exits net s) ≡ true → probability-sum (exits net s) ≡ 1000000000000
 even-of net s e h = differs-false (probability-sum (exits net s)) 1000000000000 (rw h at e)
 
-valid-even : (m : Model) → Growing m → lowest-uneven (m .net) (m .states) 1 ≡ 0 → (s : ℕ) → has-fast (exits (m .net) s) ≡ true
+valid-even : (m : Model) → Growing m → lowest (uneven (m .net)) (m .states) 1 ≡ 0 → (s : ℕ) → has-fast (exits (m .net) s) ≡ true
     → probability-sum (exits (m .net) s) ≡ 1000000000000
 valid-even m g none s h =
     let (t, member, goes-fast) = has-fast-member (exits (m .net) s) h in
@@ -103,7 +114,7 @@ valid-even m g none s h =
     let valid = each-member (ValidTransition (m .states)) member (exits-each (ValidTransition (m .states)) (m .net .table) s (g .table)) in
     let low : 1 ≤ s = omega (arith, leaves-s, valid .from-low) in
     let high : s < 1 + m .states = omega (arith, leaves-s, valid .from-high) in
-    even-of (m .net) s (lowest-none (m .net) (m .states) 1 (omega arith) none s low high) h
+    even-of (m .net) s (lowest-none (uneven (m .net)) (m .states) 1 (omega arith) none s low high) h
 
 pub read-valid : (ws : List ℕ) (budget : ℕ) (m : Model) → read ws budget ≡ granted m → Valid m
 read-valid ws budget m e =

@@ -9,15 +9,15 @@ use lib.Arith.{le-zero}
 use lib.ListN.{length}
 use lib.Dec.{ltb}
 use borrow.Author.Tests.{lt-ltb, le-ltb, ltb-false, ne-eqb}
-use Rattle.word.specs.Model.{Net, Model, is-empty, exits}
-use Rattle.word.specs.Words.{kind, from-field, to-field}
-use Rattle.word.specs.Faults.{Fault, outside, transition-faults, end-faults}
+use Rattle.word.specs.Model.{Model, is-empty, exits}
+use Rattle.word.specs.Words.{kind, named-field, from-field, to-field}
+use Rattle.word.specs.Faults.{Fault, outside, named-faults, transition-faults, end-faults}
 use Rattle.word.specs.Answer.{Answer, refused, granted, then}
 use Rattle.word.specs.Internal.Lists.{Each}
 use Rattle.model.specs.Reasons.{Called}
-use Rattle.model.specs.Reading.{Reader, at-head, at-rate, at-mean, after-end, wrong, right, unless}
-use Rattle.model.specs.Reading.{next-transition, next, read-from, uneven, lowest-uneven, Finding, model-findings, caller-findings, first-of}
-use Rattle.model.specs.Reading.{read}
+use Rattle.model.specs.Reading.{Reader, at-head, at-named, at-rate, at-mean, after-end, last-of, with-named, wrong, right, unless}
+use Rattle.model.specs.Reading.{next-transition, next-named, next, read-from, uneven, leads-on, lowest, Finding, model-findings, most-words}
+use Rattle.model.specs.Reading.{caller-findings, first-of, read}
 use Rattle.word.proofs.Tests.{inside, inside-test}
 
 -- ---- a refusal is no model
@@ -69,6 +69,18 @@ module _ (m : Model) (w : ℕ) where
   unfolding next-transition
   next-other p q r = rw (ne-eqb (kind w) 5 p, next-transition, ne-eqb (kind w) 7 q, ne-eqb (kind w) 15 r)
 
+-- ---- a word where a state may be named too
+
+module _ (m : Model) (w : ℕ) where
+  pub next-state : kind w ≡ 12 → next-named m w
+      ≡ unless (named-faults (m .states) (last-of (m .net .named)) (length (m .net .named)) w) (at-named (with-named m (named-field w)))
+  unfolding next-named
+  next-state e = rw (e, next-named)
+
+  pub next-behind : (kind w ≡ 12 → ⊥) → next-named m w ≡ next-transition m w
+  unfolding next-named
+  next-behind p = rw (ne-eqb (kind w) 12 p, next-named)
+
 -- ---- the word at a place
 
 module _ (r : Reader) (i w : ℕ) (ws : List ℕ) where
@@ -106,25 +118,25 @@ module _ {A : Type 0} where
       go true h below = absurd (refused-not-granted (sym (first-here f fs a h) ∙ e))
       go false h below = let (rest, same-value) = below (sym (first-past f fs a h) ∙ e) in ((h, rest), same-value)
 
--- ---- the lowest uneven state
+-- ---- the lowest state that passes a test
 
-module _ (net : Net) where
-  pub lowest-here : (n s : ℕ) → uneven net s ≡ true → lowest-uneven net (suc n) s ≡ s
-  unfolding lowest-uneven
-  lowest-here n s e = rw (e, lowest-uneven)
+module _ (test : ℕ → Bool) where
+  pub lowest-here : (n s : ℕ) → test s ≡ true → lowest test (suc n) s ≡ s
+  unfolding lowest
+  lowest-here n s e = rw (e, lowest)
 
-  pub lowest-later : (n s : ℕ) → uneven net s ≡ false → lowest-uneven net (suc n) s ≡ lowest-uneven net n (suc s)
-  unfolding lowest-uneven
-  lowest-later n s e = rw (e, lowest-uneven)
+  pub lowest-later : (n s : ℕ) → test s ≡ false → lowest test (suc n) s ≡ lowest test n (suc s)
+  unfolding lowest
+  lowest-later n s e = rw (e, lowest)
 
-  -- it is 0 exactly if no state is uneven
-  pub lowest-none : (n s : ℕ) → 1 ≤ s → lowest-uneven net n s ≡ 0 → (k : ℕ) → s ≤ k → k < s + n → uneven net k ≡ false
+  -- it is 0 exactly if no state passes
+  pub lowest-none : (n s : ℕ) → 1 ≤ s → lowest test n s ≡ 0 → (k : ℕ) → s ≤ k → k < s + n → test k ≡ false
   lowest-none zero s h z k low high = absurd (omega arith)
-  lowest-none (suc n) s h z k low high = go (uneven net s) refl (decLe (suc s) k) (lowest-none n (suc s) (omega arith))
+  lowest-none (suc n) s h z k low high = go (test s) refl (decLe (suc s) k) (lowest-none n (suc s) (omega arith))
     where
-      go : (b : Bool) → uneven net s ≡ b → Dec (suc s ≤ k)
-          → (lowest-uneven net n (suc s) ≡ 0 → (j : ℕ) → suc s ≤ j → j < suc s + n → uneven net j ≡ false)
-          → uneven net k ≡ false
+      go : (b : Bool) → test s ≡ b → Dec (suc s ≤ k)
+          → (lowest test n (suc s) ≡ 0 → (j : ℕ) → suc s ≤ j → j < suc s + n → test j ≡ false)
+          → test k ≡ false
       go true e d below = absurd (omega (arith, lowest-here n s e))
       go false e (yes above) below = below (sym (lowest-later n s e) ∙ z) k above (omega arith)
       go false e (no here) below = let q : k ≡ s = omega arith in rw q e
@@ -139,19 +151,19 @@ read-caller : (ws : List ℕ) (budget : ℕ) (x : Answer (List ℕ)) → first-o
 unfolding read
 read-caller ws budget x e = ap (λ (y : Answer (List ℕ)). then y words-answer) e
 
-pub read-too-long : (ws : List ℕ) (budget : ℕ) → 16005 < length ws → read ws budget ≡ refused 1 0
+pub read-too-long : (ws : List ℕ) (budget : ℕ) → most-words < length ws → read ws budget ≡ refused 1 0
 unfolding then
-read-too-long ws budget h = read-caller ws budget (refused 1 0) (first-here _ _ ws (lt-ltb 16005 (length ws) h))
+read-too-long ws budget h = read-caller ws budget (refused 1 0) (first-here _ _ ws (lt-ltb most-words (length ws) h))
 
-pub read-bad-budget : (ws : List ℕ) (budget : ℕ) → length ws ≤ 16005 → outside 1 1000000 budget ≡ true → read ws budget ≡ refused 2 0
+pub read-bad-budget : (ws : List ℕ) (budget : ℕ) → length ws ≤ most-words → outside 1 1000000 budget ≡ true → read ws budget ≡ refused 2 0
 unfolding then
-read-bad-budget ws budget short e = read-caller ws budget (refused 2 0) (first-past _ _ ws (le-ltb 16005 (length ws) short) ∙ first-here _ _ ws e)
+read-bad-budget ws budget short e = read-caller ws budget (refused 2 0) (first-past _ _ ws (le-ltb most-words (length ws) short) ∙ first-here _ _ ws e)
 
 module _ (ws : List ℕ) (budget : ℕ) (called : Called ws budget) where
   read-on : read ws budget ≡ words-answer ws
   unfolding then Each
   read-on =
-      let words-pass = le-ltb 16005 (length ws) (called .words-few) in
+      let words-pass = le-ltb most-words (length ws) (called .words-few) in
       let budget-passes = inside-test 1 1000000 budget (called .budget-low) (called .budget-high) in
       read-caller ws budget (granted ws) (first-none _ ws (words-pass, (budget-passes, tt)))
 
@@ -164,29 +176,43 @@ module _ (ws : List ℕ) (budget : ℕ) (called : Called ws budget) where
     unfolding then
     read-whole = read-on ∙ rw reads
 
-    pub read-uneven : 0 < lowest-uneven (m .net) (m .states) 1 → read ws budget ≡ refused 10 (lowest-uneven (m .net) (m .states) 1)
-    read-uneven h = read-whole ∙ first-here _ _ m (lt-ltb 0 (lowest-uneven (m .net) (m .states) 1) h)
+    abbrev lowest-uneven : ℕ
+    lowest-uneven = lowest (uneven (m .net)) (m .states) 1
 
-    module _ (even : lowest-uneven (m .net) (m .states) 1 ≡ 0) where
-      past : ltb 0 (lowest-uneven (m .net) (m .states) 1) ≡ false
-      past = rw even
+    abbrev lowest-leading-on : ℕ
+    lowest-leading-on = lowest (leads-on (m .net)) (m .states) 1
 
-      pub read-no-exits : is-empty (exits (m .net) (m .net .start)) ≡ true → read ws budget ≡ refused 11 (m .net .start)
-      read-no-exits e = read-whole ∙ first-past _ _ m past ∙ first-here _ _ m e
+    pub read-uneven : 0 < lowest-uneven → read ws budget ≡ refused 10 lowest-uneven
+    read-uneven h = read-whole ∙ first-here _ _ m (lt-ltb 0 lowest-uneven h)
 
-      pub read-grants : is-empty (exits (m .net) (m .net .start)) ≡ false → read ws budget ≡ granted m
-      unfolding Each
-      read-grants e = read-whole ∙ first-none _ m (past, (e, tt))
+    module _ (even : lowest-uneven ≡ 0) where
+      sums-pass : ltb 0 lowest-uneven ≡ false
+      sums-pass = rw even
+
+      pub read-leading-on : 0 < lowest-leading-on → read ws budget ≡ refused 16 lowest-leading-on
+      read-leading-on h = read-whole ∙ first-past _ _ m sums-pass ∙ first-here _ _ m (lt-ltb 0 lowest-leading-on h)
+
+      module _ (ending : lowest-leading-on ≡ 0) where
+        named-pass : ltb 0 lowest-leading-on ≡ false
+        named-pass = rw ending
+
+        pub read-no-exits : is-empty (exits (m .net) (m .net .start)) ≡ true → read ws budget ≡ refused 11 (m .net .start)
+        read-no-exits e = read-whole ∙ first-past _ _ m sums-pass ∙ first-past _ _ m named-pass ∙ first-here _ _ m e
+
+        pub read-grants : is-empty (exits (m .net) (m .net .start)) ≡ false → read ws budget ≡ granted m
+        unfolding Each
+        read-grants e = read-whole ∙ first-none _ m (sums-pass, (named-pass, (e, tt)))
 
 -- ---- what a granted model says of the words and the budget
 
 -- all that was tested, and how it came out
 pub record Granted (ws : List ℕ) (budget : ℕ) (m : Model) : Type 0 where
-  pub words-few : length ws ≤ 16005
+  pub words-few : length ws ≤ most-words
   pub budget-low : 1 ≤ budget
   pub budget-high : budget ≤ 1000000
   pub reads : read-from at-head 0 ws ≡ granted m
-  pub none-uneven : lowest-uneven (m .net) (m .states) 1 ≡ 0
+  pub none-uneven : lowest (uneven (m .net)) (m .states) 1 ≡ 0
+  pub none-leads-on : lowest (leads-on (m .net)) (m .states) 1 ≡ 0
   pub start-exits : is-empty (exits (m .net) (m .net .start)) ≡ false
 
 then-granted : {A B : Type 0} (x : Answer A) (f : A → Answer B) (b : B) → then x f ≡ granted b → (a : A) × (x ≡ granted a) × (f a ≡ granted b)
@@ -209,12 +235,13 @@ read-granted ws budget m e =
         let budget-in = inside 1 1000000 budget (caller .1 .0) in
         let tests = rw same-model at model in
         record {
-          words-few = ltb-false 16005 (length ws) (caller .0);
+          words-few = ltb-false most-words (length ws) (caller .0);
           budget-low = budget-in .0;
           budget-high = budget-in .1;
           reads = ap (read-from at-head 0) same-words ∙ reads ∙ ap granted same-model;
-          none-uneven = le-zero (ltb-false 0 (lowest-uneven (m .net) (m .states) 1) (tests .0));
-          start-exits = tests .1 .0;
+          none-uneven = le-zero (ltb-false 0 (lowest (uneven (m .net)) (m .states) 1) (tests .0));
+          none-leads-on = le-zero (ltb-false 0 (lowest (leads-on (m .net)) (m .states) 1) (tests .1 .0));
+          start-exits = tests .1 .1 .0;
         }
 
 pub read-budget : (ws : List ℕ) (budget : ℕ) (m : Model) → read ws budget ≡ granted m → (1 ≤ budget) × (budget ≤ 1000000)

@@ -6,7 +6,7 @@ use mathlib.Core.Bool.{true, false}
 use mathlib.Core.List.{List, [], _∷_}
 use lib.ListN.{length, getD, drop}
 use lib.Dec.{eqb}
-use Rattle.word.specs.Model.{Manner, slow, fast, Transition, Net, Model, leaves, exits}
+use Rattle.word.specs.Model.{Manner, slow, fast, Transition, Net, Model, one-if, is-named, leaves, exits}
 use Rattle.word.specs.Words.{kind, from-field, to-field, quantity}
 
 -- The indexes, from i on, of a table's transitions that leave s, in table order. Transitions are counted from 0.
@@ -44,7 +44,7 @@ no-transition = record { from = 0; to = 0; manner = slow (quantity 0) }
 abbrev pub transition : Net → ℕ → Transition
 transition net j = getD (net .table) j no-transition
 
--- ---- the array: 16 slots for each state from 0 to 1,000, a number of exits for each of them, a place for each transition
+-- ---- the array: 16 slots for each state from 0 to 1,000, a number of exits for each of them, a place for each transition, a flag for each state
 
 -- what slot i of the state s holds: the index of its exit i
 abbrev pub slot : List ℕ → ℕ → ℕ → ℕ
@@ -58,8 +58,13 @@ exit-count index s = getD index (16016 + s) 0
 abbrev pub place-of : List ℕ → ℕ → ℕ
 place-of index j = getD index (17017 + j) 0
 
+-- the flag of the state s: whether it is one of the generator's
+abbrev pub named-flag : List ℕ → ℕ → ℕ
+named-flag index s = getD index (21017 + s) 0
+
 -- The index of a model's words. What a slot past a state's number of exits holds, and the place of a transition past the table's end, is free.
 pub record Indexed (m : Model) (ws index : List ℕ) : Type 0 where
   pub counts-are : (s : ℕ) → s ≤ 1000 → exit-count index s ≡ length (exits (m .net) s)
   pub slots-are : (s i : ℕ) → s ≤ 1000 → i < length (exits (m .net) s) → slot index s i ≡ getD (exit-indexes (m .net .table) 0 s) i 0
   pub places-are : (j : ℕ) → j < length (m .net .table) → Stands ws (place-of index j) (transition (m .net) j)
+  pub named-are : (s : ℕ) → s ≤ 1000 → named-flag index s ≡ one-if (is-named (m .net) s)

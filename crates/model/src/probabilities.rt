@@ -11,7 +11,7 @@ ghost use lib.ListN.{getD};
 ghost use Rattle.word.specs.Model.{Net};
 ghost use Rattle.word.specs.Words.{scale-field, coefficient-field};
 ghost use Rattle.model.specs.Index.{exit-count};
-ghost use Rattle.model.specs.Reading as reading;
+ghost use Rattle.model.specs.Reading.{lowest, uneven};
 ghost use Rattle.model.specs.Internal.Parts.{slot-transitions, sums-uneven, Leads, Through};
 
 // 10^n
@@ -68,7 +68,7 @@ fn uneven(words: &[u32], index: &Index, s: usize, n: usize) -> bool
 // The lowest such state of 1 to `states`, by the exits that the index leads to, or 0.
 pub(crate) fn lowest_uneven(words: &[u32], states: usize, index: &Index) -> usize
     requires { ⌜ (states ≤ 1000) × ((s : ℕ) → s ≤ states → Leads (now words) (now index) s (exit-count (now index) s)) ⌝ }
-    ensures { λ r. ⌜ ((net : Net) → Through (now (words .entry)) (now (index .entry)) states net → r ≡ reading.lowest-uneven net states 1) ⌝ }
+    ensures { λ r. ⌜ ((net : Net) → Through (now (words .entry)) (now (index .entry)) states net → r ≡ lowest (uneven net) states 1) ⌝ }
 {
     let mut s = 1;
     while s <= states {

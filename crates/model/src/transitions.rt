@@ -1,7 +1,6 @@
 // Transitions in any order, up to the end, and the index of exits that they fill.
 use crate::Accepted;
 use crate::index::Index;
-use crate::index::clear;
 use crate::index::enter;
 use crate::index::exit_count;
 use crate::index::stood;
@@ -17,6 +16,7 @@ ghost use mathlib.Core.Path.{_≡_};
 ghost use lib.ListN.{length};
 ghost use Rattle.word.specs.Words as fields;
 ghost use Rattle.word.specs.Internal.Tests.{answer, first-fault};
+ghost use Rattle.model.specs.Reading.{most-words};
 ghost use Rattle.model.specs.Internal.Parts as parts;
 
 // Tests 8 and 9 of the word w, of which a state has n exits and the table `known` transitions so far.
@@ -112,7 +112,7 @@ fn end(words: &[u32], at: usize) -> Step
 // One turn: a transition or the end is called for at `at`.
 fn next(words: &[u32], a: Accepted, at: usize, known: usize, index: &mut Index) -> Step
     requires { ⌜ parts.Begun a (now words) at known (now index) ⌝ }
-    requires { ⌜ length (now words) ≤ 16005 ⌝ }
+    requires { ⌜ length (now words) ≤ most-words ⌝ }
     ensures { λ r. ⌜ parts.Stepped a (now (words .entry)) at known (now (index .exit)) r ⌝ }
 {
     if words.len() <= at {
@@ -131,14 +131,13 @@ fn next(words: &[u32], a: Accepted, at: usize, known: usize, index: &mut Index) 
     Step::Refused(Refusal::WrongKind(at))
 }
 
-// All transitions, from place 4 on, up to the end.
-pub(crate) fn list(words: &[u32], a: Accepted, index: &mut Index) -> Verdict
-    requires { ⌜ parts.IsOpened (now words) a ⌝ }
-    requires { ⌜ length (now words) ≤ 16005 ⌝ }
+// All transitions, from the place `first` on, up to the end.
+pub(crate) fn list(words: &[u32], a: Accepted, first: usize, index: &mut Index) -> Verdict
+    requires { ⌜ parts.Begun a (now words) first 0 (now index) ⌝ }
+    requires { ⌜ length (now words) ≤ most-words ⌝ }
     ensures { λ r. ⌜ parts.Listed a (now (words .entry)) (now (index .exit)) r ⌝ }
 {
-    clear(index);
-    let mut at: usize = 4;
+    let mut at: usize = first;
     let mut known: usize = 0;
     loop {
         match next(words, a, at, known, index) {

@@ -4,7 +4,7 @@ use Prim.Native.Nat.{ℕ, _+_}
 use mathlib.Core.Bool.{Bool, true, false}
 use mathlib.Core.List.{List, [], _∷_, List·Mem}
 use lib.Dec.{eqb}
-use Rattle.word.specs.Model.{Manner, slow, fast, Transition, Net, exits, has-fast}
+use Rattle.word.specs.Model.{Manner, slow, fast, Transition, Net, one-if, exits, has-fast}
 
 -- "A path is a list of transitions from the start, each leaving where the one before arrived." It is held with its last step first.
 abbrev pub Path : Type 0
@@ -19,10 +19,6 @@ last-state net (t ∷ p) = t .to
 unfoldable pub IsPath : Net → Path → Type 0
 IsPath net [] = Unit {0}
 IsPath net (t ∷ p) = List·Mem t (exits net (last-state net p)) × IsPath net p
-
-abbrev pub one-if : Bool → ℕ
-one-if true = 1
-one-if false = 0
 
 -- how often a path has entered s ("being at the start counts as one entry")
 unfoldable pub entries : Net → ℕ → Path → ℕ

@@ -1,5 +1,5 @@
--- Document 01, "Why a model is turned away": what can be wrong with a word, or with a whole model. Each place of the table has its conditions as a
--- list in document 01's order, each with its refusal's number; the first that holds counts. Assumes nothing: these are definitions.
+-- Document 01, "Why a model is turned away", and document 02, Item 3: what can be wrong with a word, or with a whole model. Each place of the table has
+-- its conditions as a list in the documents' order, each with its refusal's number; the first that holds counts. Assumes nothing: these are definitions.
 use Prim.Native.Nat.{ℕ}
 use mathlib.Core.Bool.{Bool, true, false, not, _&&_, _||_}
 use mathlib.Core.List.{List, [], _∷_}
@@ -7,7 +7,7 @@ use lib.ListN.{length}
 use lib.Dec.{leb, ltb, eqb}
 use Rattle.word.specs.Model.{Transition, is-fast, any, exits-in}
 use Rattle.word.specs.Words.{kind, edition-field, states-field, start-field, step-limit-field, entry-limit-field, caps-rest, transition-rest}
-use Rattle.word.specs.Words.{from-field, to-field, end-rest, scale-field, coefficient-field}
+use Rattle.word.specs.Words.{named-field, named-rest, from-field, to-field, end-rest, scale-field, coefficient-field}
 
 infix 15 _gives_
 -- a condition, and the number of the refusal that it leads to
@@ -47,6 +47,16 @@ caps-faults w =
     ∷ (differs (caps-rest w) 0 gives 4)
     ∷ (outside 1 24 (step-limit-field w) gives 6)
     ∷ (outside 1 24 (entry-limit-field w) gives 6)
+    ∷ []
+
+-- A kind 12 word: "15 when a named state isn't greater than the one named before it; it comes after 6 at that word", "A 101st such word is refused as
+-- 9". `states` is N, `last` the state named before (0 if there is none), `count` how many were named.
+abbrev pub named-faults : (states last count : ℕ) → ℕ → List Fault
+named-faults states last count w =
+    (differs (named-rest w) 0 gives 4)
+    ∷ (outside 1 states (named-field w) gives 6)
+    ∷ (leb (named-field w) last gives 15)
+    ∷ (leb 100 count gives 9)
     ∷ []
 
 abbrev pub same-test : Bool → Bool → Bool

@@ -1,4 +1,5 @@
--- What a word table describes: a semi-Markov model. Document 01, "The model words". Assumes nothing: these are definitions.
+-- What a word table describes: a semi-Markov model. Document 01, "The model words"; document 02, Item 3, "States that the generator pruned". Assumes
+-- nothing: these are definitions.
 use Prim.Native.Nat.{ℕ, _+_, _-_, _*_, _^_}
 use mathlib.Core.Bool.{Bool, true, false, _||_}
 use mathlib.Core.List.{List, [], _∷_}
@@ -19,10 +20,12 @@ pub record Transition : Type 0 where
   pub to : ℕ
   pub manner : Manner
 
--- The net: what classes, uppers, grains and lowers look at. `time` is the mission time T; `table` has the transitions in table order.
+-- The net: what classes, uppers, grains and lowers look at, and which states are the generator's. `time` is the mission time T; `named` has the states
+-- that "Kind 12 words" name, in the order of these words; `table` has the transitions in table order.
 pub record Net : Type 0 where
   pub start : ℕ
   pub time : Quantity
+  pub named : List ℕ
   pub table : List Transition
 
 -- The limits, which only the cut tree looks at: "step limit L", "entry limit V" and "prune level P".
@@ -52,9 +55,17 @@ unfoldable pub any : {A : Type 0} → (A → Bool) → List A → Bool
 any test [] = false
 any test (x ∷ xs) = test x || any test xs
 
+abbrev pub one-if : Bool → ℕ
+one-if true = 1
+one-if false = 0
+
 abbrev pub is-empty : {A : Type 0} → List A → Bool
 is-empty [] = true
 is-empty (x ∷ xs) = false
+
+-- whether a state is one of the generator's
+unfoldable pub is-named : Net → ℕ → Bool
+is-named net s = any (λ n. eqb n s) (net .named)
 
 abbrev pub leaves : ℕ → Transition → Bool
 leaves s t = eqb (t .from) s

@@ -1,4 +1,4 @@
--- Document 01, "The model words": the fields of a word. A word is a number below 2^32. Assumes nothing: these are definitions.
+-- Document 01, "The model words", and document 02, Item 3: the fields of a word. A word is a number below 2^32. Assumes nothing: these are definitions.
 use Prim.Native.Nat.{ℕ, suc, _-_, _/_, _%_, _^_}
 use Rattle.word.specs.declared.Quantity.{Quantity}
 
@@ -31,6 +31,14 @@ entry-limit-field w = bits 19 12 w
 
 abbrev pub caps-rest : ℕ → ℕ
 caps-rest w = bits 11 0 w
+
+-- ---- a generator's state: "Kind 12 words .., bits 11..0 a state, the other 16 of the body zero"
+
+abbrev pub named-field : ℕ → ℕ
+named-field w = bits 11 0 w
+
+abbrev pub named-rest : ℕ → ℕ
+named-rest w = bits 27 12 w
 
 -- ---- a transition: "bits 27..24 zero, 23..12 from, 11..0 to"
 

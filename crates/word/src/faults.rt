@@ -8,6 +8,8 @@ use crate::fields::end_rest;
 use crate::fields::entry_limit;
 use crate::fields::from;
 use crate::fields::kind;
+use crate::fields::named_rest;
+use crate::fields::named_state;
 use crate::fields::scale;
 use crate::fields::start;
 use crate::fields::states;
@@ -89,6 +91,27 @@ pub fn caps(part: &[u32], at: usize) -> Verdict
     }
     if outside(1, 24, entry_limit(w) as usize) {
         return Verdict::Refused(Refusal::FieldOutOfRange(at));
+    }
+    Verdict::Fine
+}
+
+// The tests of a word w that names a generator's state, whose kind is known and which stands at `place`: `last` is the state named before, 0 if there is
+// none, and `count` says how many were named.
+pub fn named(w: u32, place: usize, states: usize, last: usize, count: usize) -> Verdict
+    ensures { λ r. ⌜ answer r ≡ first-fault (faults.named-faults states last count w) place ⌝ }
+{
+    let s = named_state(w);
+    if named_rest(w) != 0 {
+        return Verdict::Refused(Refusal::BitSet(place));
+    }
+    if outside(1, states, s) {
+        return Verdict::Refused(Refusal::FieldOutOfRange(place));
+    }
+    if s <= last {
+        return Verdict::Refused(Refusal::StateNotGreater(place));
+    }
+    if 100 <= count {
+        return Verdict::Refused(Refusal::TooManyTransitions(place));
     }
     Verdict::Fine
 }

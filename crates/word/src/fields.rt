@@ -61,6 +61,23 @@ pub fn caps_rest(w: u32) -> u32
     w % 4096
 }
 
+// ---- a generator's state
+
+// Bits 11 to 0: the state.
+pub fn named_state(w: u32) -> usize
+    ensures { λ r. ⌜ r ≡ fields.named-field w ⌝ }
+    ensures { λ r. ⌜ r < 4096 ⌝ }
+{
+    start(w)
+}
+
+// Bits 27 to 12, which must be zero.
+pub fn named_rest(w: u32) -> u32
+    ensures { λ r. ⌜ r ≡ fields.named-rest w ⌝ }
+{
+    w / 4096 % 65_536
+}
+
 // ---- a transition
 
 // Bits 27 to 24, which must be zero.

@@ -22,6 +22,8 @@ pub enum Refusal {
     TooManyTransitions(usize),
     ProbabilitiesNotOne(usize),
     StartWithoutExits(usize),
+    StateNotGreater(usize),
+    NamedStateWithExits(usize),
     TooFewRows(usize),
     OverBudget,
 }

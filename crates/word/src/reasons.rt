@@ -21,6 +21,8 @@ impl Refusal {
             Refusal::StartWithoutExits(_) => 11,
             Refusal::OverBudget => 13,
             Refusal::TooFewRows(_) => 14,
+            Refusal::StateNotGreater(_) => 15,
+            Refusal::NamedStateWithExits(_) => 16,
         }
     }
 
@@ -41,6 +43,8 @@ impl Refusal {
             Refusal::StartWithoutExits(s) => s,
             Refusal::OverBudget => 0,
             Refusal::TooFewRows(n) => n,
+            Refusal::StateNotGreater(i) => i,
+            Refusal::NamedStateWithExits(s) => s,
         }
     }
 }

@@ -2,7 +2,7 @@
 -- `read`'s own promise, in Promise, names nothing of this file. Assumes nothing: these are definitions.
 use Prim.Native.Nat.{ℕ, zero, suc, _+_, _*_, _≤_, _<_}
 use mathlib.Core.Path.{_≡_}
-use mathlib.Core.Bool.{Bool, true, false, _&&_, _||_}
+use mathlib.Core.Bool.{Bool, true, false, not, _&&_, _||_}
 use mathlib.Core.Logic.{_⊎_}
 use mathlib.Core.List.{List, [], _∷_}
 use lib.ListN.{length, getD, drop, set}
@@ -10,7 +10,7 @@ use lib.Dec.{leb, eqb}
 use Rattle.word.specs.declared.Refusal.{Refusal}
 use Rattle.word.specs.declared.Verdict.{Verdict}
 use Rattle.word.specs.declared.Verdict.the-variants.{Fine, Refused as refusal}
-use Rattle.word.specs.Model.{Transition, Net, Model, any, exits, has-fast, probability-sum}
+use Rattle.word.specs.Model.{Transition, Net, Model, any, one-if, is-named, exits, has-fast, probability-sum}
 use Rattle.word.specs.Words.{kind, from-field}
 use Rattle.word.specs.Faults.{Fault, _gives_, differs, head-faults, quantity-faults, caps-faults}
 use Rattle.word.specs.Answer.{Answer, refused, granted, then}
@@ -20,10 +20,12 @@ use Rattle.model.specs.declared.Accepted.{Accepted}
 use Rattle.model.specs.declared.Reading.{Reading}
 use Rattle.model.specs.declared.opening.Opening.{Opening}
 use Rattle.model.specs.declared.opening.Opening.the-variants.{Opened, Refused as unopened}
+use Rattle.model.specs.declared.named.Naming.{Naming}
+use Rattle.model.specs.declared.named.Naming.the-variants.{From, Refused as unnamed}
 use Rattle.model.specs.declared.transitions.Step.{Step}
 use Rattle.model.specs.declared.transitions.Step.the-variants.{To, End, Refused as stopped}
-use Rattle.model.specs.Reading.{at-head, at-transition, read-from}
-use Rattle.model.specs.Index.{transition-at, slot, exit-count, place-of, Indexed}
+use Rattle.model.specs.Reading.{at-head, at-named, at-transition, last-of, read-from, most-words}
+use Rattle.model.specs.Index.{transition-at, slot, exit-count, place-of, named-flag, Indexed}
 use Rattle.model.specs.Promise.{summary, Answers}
 
 -- ---- tests of words
@@ -96,7 +98,7 @@ pub record Filled (a : Accepted) (ws index : List ℕ) (still : Model → Type 0
   pub far : still model
   pub states-high : model .states ≤ 1000
   pub start-high : model .net .start ≤ model .states
-  pub long : length index ≡ 21017
+  pub long : length index ≡ 22018
   pub few : length (model .net .table) ≤ 4000
   pub few-exits : (s : ℕ) → length (exits (model .net) s) ≤ 16
   pub transitions : (j : ℕ) → j < length (model .net .table) → TransitionWord (getD ws (place-of index j) 0)
@@ -128,7 +130,7 @@ Stepped a ws i known index (stopped f) = Stopped ws f
 -- the word at place i is of kind 5 or 7
 pub record AtTransition (a : Accepted) (ws : List ℕ) (i known : ℕ) (index : List ℕ) : Type 0 where
   pub begun : Begun a ws i known index
-  pub short : length ws ≤ 16005
+  pub short : length ws ≤ most-words
   pub inside : i < length ws
   pub kind-is : (kind (getD ws i 0) ≡ 5) ⊎ (kind (getD ws i 0) ≡ 7)
 
@@ -162,8 +164,9 @@ Listed a ws index (refusal f) = Stopped ws f
 pub record IsOpened (ws : List ℕ) (a : Accepted) : Type 0 where
   pub model : Model
   pub fields : a ≡ summary model
+  pub none-named : model .net .named ≡ []
   pub empty : model .net .table ≡ []
-  pub reads : read-from at-head 0 ws ≡ read-from (at-transition model) 4 (drop 4 ws)
+  pub reads : read-from at-head 0 ws ≡ read-from (at-named model) 4 (drop 4 ws)
   pub inside : 4 ≤ length ws
   pub states-high : model .states ≤ 1000
   pub start-high : model .net .start ≤ model .states
@@ -172,6 +175,32 @@ abbrev pub OpensAs : List ℕ → Opening → Type 0
 OpensAs ws (Opened a) = IsOpened ws a
 OpensAs ws (unopened f) = Stopped ws f
 
+-- The words up to place i have been read: the first four, and behind them words that name states, `count` of them, the last of them `last` (0 if there
+-- is none). The index has these states' flags and nothing else.
+pub record NamedUpTo (a : Accepted) (ws : List ℕ) (i last count : ℕ) (index : List ℕ) : Type 0 where
+  pub model : Model
+  pub fields : a ≡ summary model
+  pub empty : model .net .table ≡ []
+  pub reads : read-from at-head 0 ws ≡ read-from (at-named model) i (drop i ws)
+  pub inside : i ≤ length ws
+  pub last-is : last ≡ last-of (model .net .named)
+  pub count-is : count ≡ length (model .net .named)
+  pub count-few : count ≤ 100
+  pub states-high : model .states ≤ 1000
+  pub start-high : model .net .start ≤ model .states
+  pub long : length index ≡ 22018
+  pub no-exits : (s : ℕ) → s ≤ 1000 → exit-count index s ≡ 0
+  pub named-are : (s : ℕ) → s ≤ 1000 → named-flag index s ≡ one-if (is-named (model .net) s)
+
+-- What the loop over the words that name states says: the transitions begin at place i.
+abbrev pub NamedAs : Accepted → List ℕ → List ℕ → Naming → Type 0
+NamedAs a ws index (From i) = Begun a ws i 0 index
+NamedAs a ws index (unnamed f) = Stopped ws f
+
+-- whether the state s is named and has exits, by the index
+abbrev pub leads-on-by : List ℕ → ℕ → Bool
+leads-on-by index s = eqb (named-flag index s) 1 && not (eqb (exit-count index s) 0)
+
 -- What the tests after the end say, once the caller's two tests are passed.
 abbrev pub Concluded : List ℕ → List ℕ → Reading → Type 0
-Concluded ws index r = (budget : ℕ) → length ws ≤ 16005 → 1 ≤ budget → budget ≤ 1000000 → Answers ws budget index r
+Concluded ws index r = (budget : ℕ) → length ws ≤ most-words → 1 ≤ budget → budget ≤ 1000000 → Answers ws budget index r
