@@ -126,7 +126,7 @@ fn measured(words: &[u32], budget: u64, lent: usize, rows: &mut RowTable) -> Ans
     ensures { λ r. ⌜ Measured (now (words .entry)) (now (words .exit)) budget lent (now (rows .exit)) r ⌝ }
 {
     clear(rows);
-    let mut index: Index = [0; 21017];
+    let mut index: Index = [0; 22018];
     let r = read(words, budget, &mut index);
     match r {
         Reading::Refused(f) => Answer::Refused(f),

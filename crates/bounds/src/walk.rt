@@ -15,6 +15,7 @@ use path::exits::Tip;
 use path::exits::exit_at;
 use path::outcome::is_continued;
 use path::outcome::is_death;
+use path::outcome::is_named_end;
 use path::outcome::judge;
 use rows::table::RowTable;
 use rows::table::is_kept;
@@ -68,7 +69,16 @@ pub(crate) fn walk(
         let to = next.state;
         let before = entered[to];
         let exits = exit_count(index, to);
-        let o = judge(exits, before, left - 1, upper, level, task.entry_limit);
+        let named = is_named_end(index, to, exits);
+        let o = judge(
+            named,
+            exits,
+            before,
+            left - 1,
+            upper,
+            level,
+            task.entry_limit,
+        );
         if is_death(o) {
             let died = death(words, index, table, time, path, tip, nth, exit, cache);
             let lower = died.lower;

@@ -10,7 +10,7 @@ use lib.IntN.{ℤ, pos, negsuc}
 use Rattle.figure.specs.declared.Figure.{Figure}
 use Rattle.figure.specs.Rounding.{IsFigure}
 use Rattle.figure.specs.Operations.{at-or-below}
-use Rattle.tree.specs.Paths.{one-if}
+use Rattle.word.specs.Model.{one-if}
 use Rattle.tree.specs.Report.{Values, values, answer}
 use Rattle.tree.specs.Marks.{Marks, marks-with}
 use Rattle.tree.specs.declared.Row.{Row}

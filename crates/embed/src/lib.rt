@@ -3,7 +3,7 @@ ghost use mathlib.Core.Path.{_≡_};
 ghost use mathlib.Core.List.{[], _∷_};
 ghost use lib.ListN.{take};
 ghost use Rattle.word.specs.Answer.{granted};
-ghost use Rattle.tree.specs.Paths.{one-if};
+ghost use Rattle.word.specs.Model.{one-if};
 ghost use Rattle.tree.specs.Report as definition;
 ghost use Rattle.bounds.specs.Answers.{report-of, marks-of};
 ghost use Rattle.text.specs.Bytes.{most-bytes, Spelled};

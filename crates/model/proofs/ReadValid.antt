@@ -1,17 +1,17 @@
 -- Every model that is read without a refusal is valid. The proof goes word by word: `ReadSoFar` says what holds at each place. Assumes nothing.
 use Prim.Native.Nat.{ℕ, suc, _+_, _≤_, _<_}
 use mathlib.Core.Path.{_≡_, refl, sym, _∙_, subst}
-use mathlib.Core.Bool.{true, false}
-use mathlib.Core.List.{List, [], _∷_}
+use mathlib.Core.Bool.{Bool, true, false, true≢false}
+use mathlib.Core.List.{List, [], _∷_, List·Memᴰ, List·Memᴰ·head}
 use native.Mathlib.Omega.{arith}
 use native.Mathlib.Decide.{ℕ-discrete}
-use Rattle.word.specs.Model.{slow, fast, Net, Model, exits, has-fast, probability-sum}
+use Rattle.word.specs.Model.{slow, fast, Transition, Net, Model, is-empty, is-named, exits, has-fast, probability-sum}
 use Rattle.word.specs.Words.{kind, named-field, quantity}
 use Rattle.word.specs.Faults.{Fault, quantity-faults}
 use Rattle.word.specs.Answer.{granted}
 use Rattle.model.specs.Reading.{Reader, at-head, at-time, at-prune, at-caps, at-named, at-transition, at-rate, at-mean, at-deviation}
 use Rattle.model.specs.Reading.{at-probability, after-end, Next, wrong, right, unless, next-transition, next-named, next, at-words-end}
-use Rattle.model.specs.Reading.{read-from, uneven, lowest, read}
+use Rattle.model.specs.Reading.{read-from, uneven, leads-on, lowest, read}
 use Rattle.model.specs.Internal.Valid.{InRange, ValidManner, ValidTransition, Valid}
 use Rattle.word.proofs.Members.{each-member}
 use Rattle.word.proofs.Exits.{exits-each, exits-leave, has-fast-member}
@@ -106,15 +106,36 @@ from-so-far (w ∷ ws) r i m h e = go (next r w) refl (λ r′. from-so-far ws r
 even-of : (net : Net) (s : ℕ) → uneven net s ≡ false → has-fast (exits net s) ≡ true → probability-sum (exits net s) ≡ 1000000000000
 even-of net s e h = differs-false (probability-sum (exits net s)) 1000000000000 (rw h at e)
 
+-- a state that an exit leaves is from 1 to N
+exit-range : (m : Model) → Growing m → (s : ℕ) {t : Transition} → List·Memᴰ t (exits (m .net) s) → (1 ≤ s) × (s < 1 + m .states)
+exit-range m g s member =
+    let leaves-s = each-member (λ u. u .from ≡ s) member (exits-leave (m .net .table) s) in
+    let valid = each-member (ValidTransition (m .states)) member (exits-each (ValidTransition (m .states)) (m .net .table) s (g .table)) in
+    (omega (arith, leaves-s, valid .from-low), omega (arith, leaves-s, valid .from-high))
+
+first-member : {A : Type 0} (xs : List A) → is-empty xs ≡ false → (x : A) × List·Memᴰ x xs
+first-member [] e = absurd (true≢false e)
+first-member (x ∷ xs) e = (x, List·Memᴰ·head refl)
+
 valid-even : (m : Model) → Growing m → lowest (uneven (m .net)) (m .states) 1 ≡ 0 → (s : ℕ) → has-fast (exits (m .net) s) ≡ true
     → probability-sum (exits (m .net) s) ≡ 1000000000000
 valid-even m g none s h =
     let (t, member, goes-fast) = has-fast-member (exits (m .net) s) h in
-    let leaves-s = each-member (λ u. u .from ≡ s) member (exits-leave (m .net .table) s) in
-    let valid = each-member (ValidTransition (m .states)) member (exits-each (ValidTransition (m .states)) (m .net .table) s (g .table)) in
-    let low : 1 ≤ s = omega (arith, leaves-s, valid .from-low) in
-    let high : s < 1 + m .states = omega (arith, leaves-s, valid .from-high) in
+    let (low, high) = exit-range m g s member in
     even-of (m .net) s (lowest-none (uneven (m .net)) (m .states) 1 (omega arith) none s low high) h
+
+-- a named state has no exits
+valid-named-end : (m : Model) → Growing m → lowest (leads-on (m .net)) (m .states) 1 ≡ 0 → (s : ℕ) → is-named (m .net) s ≡ true
+    → is-empty (exits (m .net) s) ≡ true
+valid-named-end m g none s named = go (is-empty (exits (m .net) s)) refl
+  where
+    go : (b : Bool) → is-empty (exits (m .net) s) ≡ b → is-empty (exits (m .net) s) ≡ true
+    go true e = e
+    go false e =
+        let (t, member) = first-member (exits (m .net) s) e in
+        let (low, high) = exit-range m g s member in
+        let ends : leads-on (m .net) s ≡ false = lowest-none (leads-on (m .net)) (m .states) 1 (omega arith) none s low high in
+        absurd (true≢false (rw (named, e) at ends))
 
 pub read-valid : (ws : List ℕ) (budget : ℕ) (m : Model) → read ws budget ≡ granted m → Valid m
 read-valid ws budget m e =
@@ -137,4 +158,5 @@ read-valid ws budget m e =
       distinct = g .distinct;
       even = valid-even m g (tested .none-uneven);
       start-exits = tested .start-exits;
+      named-end = valid-named-end m g (tested .none-leads-on);
     }

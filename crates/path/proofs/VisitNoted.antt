@@ -3,7 +3,7 @@ use Prim.Native.Nat.{ℕ}
 use mathlib.Core.Path.{_≡_, refl, sym, ap, _∙_}
 use mathlib.Core.Bool.{true, false, true≢false}
 use Rattle.figure.specs.declared.Figure.{Figure}
-use Rattle.tree.specs.Tree.{Outcome, death, entered-too-often, step-limit, low-level, continued, is-death, is-continued}
+use Rattle.tree.specs.Tree.{Outcome, generators-state, death, entered-too-often, step-limit, low-level, continued, is-death, is-continued}
 use Rattle.tree.proofs.Outcomes.{is-death-true, is-continued-true}
 use Rattle.tree.specs.Marks.{Marks}
 use Rattle.tree.specs.Internal.Tally.{with-step, with-cut, with-death, row-with-death, marks-with-death, marks-with-cut, Kept, noted}
@@ -33,6 +33,7 @@ module _ (a : Kept) {r : Kept} (s : ℕ) (l u : Figure) (k : Marks) (o : Outcome
   note-cut e h m d c = go o d c
     where
       go : (x : Outcome) → is-death x ≡ false → is-continued x ≡ false → r ≡ noted a x s l u k
+      go generators-state d c = parts {b = noted a generators-state s l u k} e h m
       go death d c = absurd (true≢false d)
       go entered-too-often d c = parts {b = noted a entered-too-often s l u k} e h m
       go step-limit d c = parts {b = noted a step-limit s l u k} e h m

@@ -10,13 +10,12 @@ use lib.Dec.{eqb}
 use lib.ListN.{length, getD, set, replicate, length-set, length-append, List·getD-append}
 use lib.Seq.{getD-set-same, getD-set-other, getD-append-seam}
 use borrow.Author.Tests.{eq-eqb, ne-eqb}
-use Rattle.word.specs.Model.{Transition, Net, Model, is-empty, any, only, exits}
+use Rattle.word.specs.Model.{Transition, Net, Model, one-if, is-empty, any, is-named, only, exits}
 use Rattle.word.proofs.Members.{is-empty-length, only-append}
 use Rattle.word.specs.Words.{to-field}
 use Rattle.model.specs.Index.{no-transition, transition, exit-count}
 use Rattle.model.proofs.Slots.{word, stands-to}
 use Rattle.tables.proofs.Classes.{step-valid}
-use Rattle.tree.specs.Paths.{one-if}
 use Rattle.tree.specs.Rows.{has-row, numbers-from, row-states}
 use Rattle.tables.specs.Internal.Described.{Indexes, described, net-of}
 use Rattle.rows.specs.Internal.Table.{row-state}
@@ -101,16 +100,6 @@ module _ {ws index : List ℕ} (indexes : Indexes ws index) {j w d : ℕ} (insid
 -- ---- the list
 
 -- the two tests
-module _ (index targets : List ℕ) (s : ℕ) {e : ℕ} (is : e ≡ exit-count index s) where
-  pub marked-true : e ≡ 0 → getD targets s 0 ≡ 1 → marked index targets s ≡ true
-  marked-true none one = ap₂ (λ a b. a && b) (eq-eqb (exit-count index s) 0 (sym is ∙ none)) (eq-eqb (getD targets s 0) 1 one)
-
-  pub marked-exits : (e ≡ 0 → ⊥) → marked index targets s ≡ false
-  marked-exits some = ap (λ a. a && eqb (getD targets s 0) 1) (ne-eqb (exit-count index s) 0 (λ z. some (is ∙ z)))
-
-  pub marked-other : e ≡ 0 → (getD targets s 0 ≡ 1 → ⊥) → marked index targets s ≡ false
-  marked-other none off = ap₂ (λ a b. a && b) (eq-eqb (exit-count index s) 0 (sym is ∙ none)) (ne-eqb (getD targets s 0) 1 off)
-
 module _ (index targets : List ℕ) where
   pub listed-pass : (n : ℕ) → marked index targets (suc n) ≡ true → listed index targets (suc n) ≡ listed index targets n ++ (suc n ∷ [])
   unfolding listed
@@ -202,9 +191,10 @@ module _ {ws index : List ℕ} (indexes : Indexes ws index) {targets : List ℕ}
   marked-is : (s : ℕ) → s ≤ 1000 → marked index targets s ≡ has-row net s
   unfolding has-row
   marked-is s low =
-      ap₂ (λ a b. a && b)
+      ap₂ (λ a b. not a && b) (ap (λ k. eqb k 1) (indexes .indexed .named-are s low) ∙ one-if-test (is-named net s))
+      (ap₂ (λ a b. a && b)
       (ap (λ k. eqb k 0) (indexes .indexed .counts-are s low) ∙ sym (is-empty-length (exits net s)))
-      (ap (λ k. eqb k 1) (all .marks s low) ∙ one-if-test (target-among (net .table) (length (net .table)) s) ∙ among-all s (net .table))
+      (ap (λ k. eqb k 1) (all .marks s low) ∙ one-if-test (target-among (net .table) (length (net .table)) s) ∙ among-all s (net .table)))
 
   pub listed-is : (n : ℕ) → n ≤ 1000 → listed index targets n ≡ only (has-row net) (numbers-from n 1)
   unfolding listed only numbers-from

@@ -4,11 +4,12 @@ ghost use lib.ListN.{length, replicate};
 ghost use Prim.Native.Nat.{_≤_};
 ghost use Rattle.model.specs.Promise.{summary};
 ghost use Rattle.tables.specs.Internal.Described.{Indexes, described, net-of};
-ghost use Rattle.rows.specs.Internal.Names.{Targets, Listed, Named};
+ghost use Rattle.rows.specs.Internal.Names.{Targets, marked, Listed, Named};
 use crate::table::RowTable;
 use model::Accepted;
 use model::index::Index;
 use model::index::exit_count;
+use model::index::is_named;
 use model::index::word_of;
 use tables::transition_count;
 use word::fields::to;
@@ -26,7 +27,21 @@ fn mark_targets(words: &[u32], index: &Index, transitions: usize, targets: &mut 
     }
 }
 
-// Lists the states from 1 to `states` that have no exits and are targets, and hands back how many there are.
+// Whether the state s has a row: it is none of the generator's, has no exits, and is a target.
+fn has_row(index: &Index, targets: &[u8; 1001], s: usize) -> bool
+    requires { ⌜ s ≤ 1000 ⌝ }
+    ensures { λ r. ⌜ r ≡ marked (now (index .entry)) (now (targets .entry)) s ⌝ }
+{
+    if is_named(index, s) {
+        return false;
+    }
+    if exit_count(index, s) != 0 {
+        return false;
+    }
+    targets[s] == 1
+}
+
+// Lists the states from 1 to `states` that have rows, and hands back how many there are.
 fn list_states(index: &Index, targets: &[u8; 1001], states: usize, table: &mut RowTable) -> usize
     requires { ⌜ (states ≤ 1000) × (length (now table) ≡ 5014) ⌝ }
     ensures { λ r. ⌜ Listed (now (index .entry)) (now (targets .entry)) states (now (table .entry)) (now (table .exit)) r ⌝ }
@@ -35,11 +50,9 @@ fn list_states(index: &Index, targets: &[u8; 1001], states: usize, table: &mut R
     let mut s = 0;
     while s < states {
         s += 1;
-        if exit_count(index, s) == 0 {
-            if targets[s] == 1 {
-                n += 1;
-                table[n] = s as u64;
-            }
+        if has_row(index, targets, s) {
+            n += 1;
+            table[n] = s as u64;
         }
     }
     n

@@ -14,7 +14,7 @@ use Rattle.word.specs.Model.{Transition, leaves, only, exits-in}
 use Rattle.word.specs.Internal.Lists.{Each}
 use Rattle.model.specs.Internal.Valid.{ValidTransition}
 use Rattle.word.proofs.Members.{each-monotone}
-use Rattle.tree.specs.Paths.{one-if}
+use Rattle.word.specs.Model.{one-if}
 use Rattle.tables.specs.Internal.Described.{Indexes, described, net-of, exit-total}
 
 -- the exits of the states 1 to n

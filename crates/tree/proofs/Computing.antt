@@ -5,9 +5,9 @@ use Rattle.figure.specs.Rounding.{value, digits-from, digit-count, dividend, di
 use Rattle.figure.specs.Operations.{times-up, times-down, plus-up, plus-down, minus-down, divided-up, divided-down, times-ten, of-whole, of-quantity}
 use Rattle.figure.specs.Operations.{at-or-below, total-up, total-down, to-nine-up, to-nine-down, sum-to-nine-up}
 use Rattle.figure.specs.Losses.{keeps, times-keeps, plus-keeps, minus-keeps, divided-keeps, whole-keeps, total-keeps, to-nine-keeps, sum-to-nine-keeps}
-use Rattle.word.specs.Model.{only, any, exits-in, has-fast, probability-sum}
+use Rattle.word.specs.Model.{only, any, is-named, exits-in, has-fast, probability-sum}
 use Rattle.word.specs.Answer.{then}
-use Rattle.model.specs.Reading.{unless, next-transition, next, at-words-end, read-from, lowest-uneven, first-of, read}
+use Rattle.model.specs.Reading.{last-of, unless, next-transition, next-named, next, at-words-end, read-from, lowest, first-of, read}
 use Rattle.tree.specs.Paths.{last-state, entries, class, class1-count}
 use Rattle.tree.specs.States.{time-squared, second-moment, sum-over, rate-sum, mean-up, mean-down, moment-sum}
 use Rattle.tree.specs.Upper.{upper-step, upper}
@@ -24,8 +24,8 @@ use Rattle.tree.specs.Marks.{total-kept, marks-of, marks-on, marks-with}
 
 unfoldable pub computing : Type 0
 unfolding answer walked report-on report-of upper-total lower-total
-    read first-of lowest-uneven read-from at-words-end next next-transition unless then
-    only any exits-in has-fast probability-sum
+    read first-of lowest read-from at-words-end next next-named next-transition unless last-of then
+    only any is-named exits-in has-fast probability-sum
     whole ratio inverse ten at-most _+ᶠ_ _-ᶠ_ _*ᶠ_ _/ᶠ_
     value digits-from digit-count dividend divisor floor ceiling lowest-power up-from down-from up down
     times-up times-down plus-up plus-down minus-down divided-up divided-down times-ten of-whole of-quantity

@@ -2,6 +2,7 @@
 -- answers; and the rows that are filled. Assumes nothing.
 use Prim.Native.Nat.{ℕ, _+_, _-_, _≤_, _<_}
 use mathlib.Core.Path.{_≡_, refl, sym, ap, _∙_, subst}
+use mathlib.Core.Logic.{_⊎_, inl, inr}
 use mathlib.Core.List.{List, [], _++_, map}
 use native.Mathlib.Omega.{arith}
 use native.Mathlib.Decide.{decLe, decLt}
@@ -13,7 +14,7 @@ use Rattle.word.specs.Answer.{Answer, then}
 use Rattle.word.specs.Internal.Lists.{Each}
 use Rattle.word.proofs.Members.{lookup-map}
 use Rattle.model.specs.Reading.{first-of, read}
-use Rattle.model.specs.Reasons.{Reason, too-long, bad-budget, bad-word, bad-sum, no-exits}
+use Rattle.model.specs.Reasons.{OfWord, Reason, too-long, bad-budget, bad-word, bad-sum, named-with-exits, no-exits}
 use Rattle.model.proofs.Refusals.{refused-not-granted, first-here, first-none}
 use Rattle.model.proofs.ReadValid.{read-valid}
 use Rattle.model.proofs.Numbers.{refusal-reason}
@@ -116,16 +117,27 @@ refused-number e = cc
 pub refused-place : {A : Type 0} {n p o q : ℕ} → _≡_ {A = Answer A} (Answer.refused n p) (Answer.refused o q) → p ≡ q
 refused-place e = cc
 
--- the reading refuses with 1 to 11
-pub read-number : (ws : List ℕ) (budget number place : ℕ) → read ws budget ≡ Answer.refused number place → (1 ≤ number) × (number ≤ 11)
+-- neither 13, which is the walk's, nor 14, which is that of the rows
+abbrev OfReading : ℕ → Type 0
+OfReading number = (number ≡ 13 → ⊥) × (number ≡ 14 → ⊥)
+
+pub read-number : (ws : List ℕ) (budget number place : ℕ) → read ws budget ≡ Answer.refused number place → OfReading number
 read-number ws budget number place e = go (refusal-reason ws budget number place e)
   where
-    go : Reason ws budget number place → (1 ≤ number) × (number ≤ 11)
-    go (too-long n i h) = (omega arith, omega arith)
-    go (bad-budget n i h k) = (omega arith, omega arith)
-    go (bad-word low high c s) = (omega arith, omega arith)
-    go (bad-sum m n c r l h u b) = (omega arith, omega arith)
-    go (no-exits m n i c r b h) = (omega arith, omega arith)
+    is : {n : ℕ} → OfReading n → number ≡ n → OfReading number
+    is h e = (λ f. h .0 (sym e ∙ f), λ f. h .1 (sym e ∙ f))
+
+    of-word : OfWord number → OfReading number
+    of-word (inl h) = (λ f. absurd (omega (arith, f, h .1)), λ f. absurd (omega (arith, f, h .1)))
+    of-word (inr h) = is (λ f. omega arith, λ f. omega arith) h
+
+    go : Reason ws budget number place → OfReading number
+    go (too-long n i h) = is (λ f. omega arith, λ f. omega arith) n
+    go (bad-budget n i h k) = is (λ f. omega arith, λ f. omega arith) n
+    go (bad-word h c s) = of-word h
+    go (bad-sum m n c r l) = is (λ f. omega arith, λ f. omega arith) n
+    go (named-with-exits m n c r b l) = is (λ f. omega arith, λ f. omega arith) n
+    go (no-exits m n i c r b d h) = is (λ f. omega arith, λ f. omega arith) n
 
 -- a walk that refuses does so with 13, and its tree has more steps than the budget
 pub walked-refused : (budget : ℕ) (m : Model) (number place : ℕ) → walked budget m ≡ Answer.refused number place
@@ -151,7 +163,7 @@ answer-not-fourteen ws budget place e = go (read ws budget) refl
     go : (a : Answer Model) → read ws budget ≡ a → ⊥
     go (Answer.refused n p) f =
         let same : n ≡ 14 = refused-number (sym (answer-refused ws budget n p f) ∙ e) in
-        absurd (omega (arith, same, read-number ws budget n p f .1))
+        read-number ws budget n p f .1 same
     go (Answer.granted m) f = absurd (omega (arith, walked-refused budget m 14 place (sym (answer-read ws budget m f) ∙ e) .0))
 
 -- "14 when there are fewer rows than such states", and in no other event

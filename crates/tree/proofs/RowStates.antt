@@ -1,8 +1,8 @@
--- The list of row states is what document 02 says of it: each state without exits that is a target, rising, and so each that a death path ends in; it
+-- The list of row states is what document 02 says of it: each state without exits that is a target and none of the generator's, rising, and so each that a death path ends in; it
 -- has at most N states. Assumes nothing.
 use Prim.Native.Nat.{ℕ, zero, suc, _+_, _≤_, _<_}
-use mathlib.Core.Path.{_≡_, refl, sym, ap, _∙_}
-use mathlib.Core.Bool.{Bool, true, false, _&&_, false≢true}
+use mathlib.Core.Path.{_≡_, refl, sym, ap, ap₂, _∙_}
+use mathlib.Core.Bool.{Bool, true, false, not, _&&_, false≢true}
 use mathlib.Core.Logic.{∥∥₁-elim, ∥∥₁-map}
 use mathlib.Core.List.{List, [], _∷_, List·Mem, List·Memᴰ, List·Memᴰ·head, List·Memᴰ·tail, List·Mem-prop}
 use native.Mathlib.Omega.{arith}
@@ -10,7 +10,7 @@ use native.Mathlib.Decide.{ℕ-discrete}
 use lib.ListN.{length}
 use lib.Dec.{eqb}
 use borrow.Author.Tests.{eqb-true, eq-eqb}
-use Rattle.word.specs.Model.{Model, is-empty, any, leaves, exits-in, exits}
+use Rattle.word.specs.Model.{Model, is-empty, any, is-named, leaves, exits-in, exits}
 use Rattle.word.specs.Internal.Lists.{Each}
 use Rattle.word.proofs.Members.{both, each-monotone, each-member, only-length, any-some}
 use Rattle.model.specs.Internal.Valid.{ValidTransition, Valid}
@@ -80,17 +80,23 @@ is-empty-nil : {A : Type 0} (xs : List A) → is-empty xs ≡ true → xs ≡ []
 is-empty-nil [] e = refl
 is-empty-nil (x ∷ xs) e = absurd (false≢true e)
 
+not-true : (b : Bool) → not b ≡ true → b ≡ false
+not-true true e = sym e
+not-true false e = refl
+
 -- the law: a state stands in the list exactly if it is such a state
 row-state-has : (m : Model) {s : ℕ} → List·Memᴰ s (row-states m) → HasRow m s
 unfolding row-states has-row
 row-state-has m {s} k =
     let range = row-states-range m k in
     let passes = only-from (has-row (m .net)) (numbers-from (m .states) 1) k .1 in
-    let tests = both (is-empty (exits (m .net) s)) (any (λ t. eqb (t .to) s) (m .net .table)) passes in
+    let (free, rest) = both (not (is-named (m .net) s)) _ passes in
+    let tests = both (is-empty (exits (m .net) s)) (any (λ t. eqb (t .to) s) (m .net .table)) rest in
     let (t, member, arrives) = any-some (λ t. eqb (t .to) s) (m .net .table) (tests .1) in
     record {
       low = range .0;
       high = range .1;
+      not-named = not-true (is-named (m .net) s) free;
       no-exits = is-empty-nil (exits (m .net) s) (tests .0);
       by = t;
       in-table = member;
@@ -101,7 +107,7 @@ has-row-state : (m : Model) {s : ℕ} → HasRow m s → List·Memᴰ s (row-sta
 unfolding row-states has-row
 has-row-state m {s} h =
     only-member (has-row (m .net)) (numbers-member (m .states) 1 s (h .low) (omega (arith, h .high)))
-    (ap (λ ts. is-empty ts && any (λ t. eqb (t .to) s) (m .net .table)) (h .no-exits)
+    (ap₂ (λ b ts. not b && (is-empty ts && any (λ t. eqb (t .to) s) (m .net .table))) (h .not-named) (h .no-exits)
     ∙ any-member (λ t. eqb (t .to) s) (h .in-table) (eq-eqb (h .by .to) s (h .target)))
 
 pub row-states-exactly : RowStatesExactly
@@ -109,13 +115,14 @@ row-states-exactly m s = (λ k. ∥∥₁-map k (row-state-has m), λ h. ∥∥�
 
 -- ---- a death path ends in one of them
 
-death-no-exits : (a b c d : Bool) → is-death (decided a b c d) ≡ true → a ≡ true
+death-decided : (n a b c d : Bool) → is-death (decided n a b c d) ≡ true → (n ≡ false) × (a ≡ true)
 unfolding decided
-death-no-exits true b c d e = refl
-death-no-exits false true c d e = absurd (false≢true e)
-death-no-exits false false true d e = absurd (false≢true e)
-death-no-exits false false false true e = absurd (false≢true e)
-death-no-exits false false false false e = absurd (false≢true e)
+death-decided true a b c d e = absurd (false≢true e)
+death-decided false true b c d e = (refl, refl)
+death-decided false false true c d e = absurd (false≢true e)
+death-decided false false false true d e = absurd (false≢true e)
+death-decided false false false false true e = absurd (false≢true e)
+death-decided false false false false false e = absurd (false≢true e)
 
 module _ {m : Model} (valid : Valid m) where
   death-row : (p : Path) → InTree (m .net) (m .limits) is-death p → List·Mem (last-state (m .net) p) (row-states m)
@@ -124,13 +131,13 @@ module _ {m : Model} (valid : Valid m) where
   death-row (t ∷ p) h =
       ∥∥₁-map (h .formed .is-path .0) (λ k. has-row-state m (arrives (only-from (leaves (last-state (m .net) p)) (m .net .table) k .0)))
     where
-      ended : is-empty (exits (m .net) (t .to)) ≡ true
-      ended = death-no-exits _ _ _ _ (ap is-death (sym (outcome-decided (m .net) (m .limits) (t ∷ p))) ∙ h .passes)
+      ended : (is-named (m .net) (t .to) ≡ false) × (is-empty (exits (m .net) (t .to)) ≡ true)
+      ended = death-decided _ _ _ _ _ (ap is-death (sym (outcome-decided (m .net) (m .limits) (t ∷ p))) ∙ h .passes)
 
       arrives : List·Memᴰ t (m .net .table) → HasRow m (t .to)
       arrives k =
           let v = each-member (ValidTransition (m .states)) k (valid .table) in
-          record { low = v .to-low; high = v .to-high; no-exits = is-empty-nil (exits (m .net) (t .to)) ended; by = t; in-table = k; target = refl }
+          record { low = v .to-low; high = v .to-high; not-named = ended .0; no-exits = is-empty-nil (exits (m .net) (t .to)) (ended .1); by = t; in-table = k; target = refl }
 
 pub every-death-has-row : EveryDeathHasRow
 every-death-has-row ws budget m e p k =

@@ -30,7 +30,7 @@ rows-found ws budget lent = go (read ws budget) refl
     counted m e (no h) = refuses 14 (length (row-states m)) (λ n. omega arith) (rows-read-few ws budget lent e (omega arith))
 
     go : (a : Answer Model) → read ws budget ≡ a → RowsFound ws budget lent
-    go (Answer.refused n p) e = refuses n p (λ same. omega (arith, same, read-number ws budget n p e .1)) (rows-read-refused ws budget lent e)
+    go (Answer.refused n p) e = refuses n p (read-number ws budget n p e .0) (rows-read-refused ws budget lent e)
     go (Answer.granted m) e = counted m e (decLe (length (row-states m)) lent)
 
 -- ---- the walk of a model that was read, with rows enough

@@ -7,8 +7,8 @@ use borrow.Author.Tests.{eq-eqb, ne-eqb, le-leb, lt-leb}
 use Rattle.figure.specs.declared.Figure.{Figure}
 use Rattle.figure.specs.Rounding.{none, down}
 use Rattle.figure.specs.Operations.{times-down, of-whole}
-use Rattle.word.specs.Model.{Transition, Net}
-use Rattle.tree.specs.Paths.{Path, last-state, one-if, entries, class, counts-1, class1-count}
+use Rattle.word.specs.Model.{Transition, Net, one-if}
+use Rattle.tree.specs.Paths.{Path, last-state, entries, class, counts-1, class1-count}
 use Rattle.tree.specs.States.{rate-sum}
 use Rattle.tree.specs.Upper.{upper-step, upper}
 use Rattle.tree.specs.Grains.{grains, grains-in, grain-sum}

@@ -8,7 +8,7 @@ use Rattle.word.specs.Model.{Net}
 use Rattle.tree.specs.Paths.{Path, last-state}
 use Rattle.tree.specs.Upper.{upper}
 use Rattle.tree.specs.Lower.{lower}
-use Rattle.tree.specs.Tree.{Outcome, death, entered-too-often, step-limit, low-level, continued, Visit, paths, deaths, cuts}
+use Rattle.tree.specs.Tree.{Outcome, generators-state, death, entered-too-often, step-limit, low-level, continued, Visit, paths, deaths, cuts}
 use Rattle.tree.specs.Report.{upper-total, lower-total}
 use Rattle.tree.specs.Marks.{lower-kept, upper-kept, total-kept, lower-total-kept, upper-total-kept, path-marks, marks-of, marks-on}
 use Rattle.tree.specs.Internal.Tally.{Kept, nothing-kept, with-step, with-cut, with-death, marks-with-death, marks-with-cut}
@@ -59,6 +59,7 @@ module _ (net : Net) where
       go : (p : Path) (o : Outcome)
           → (let b = noted a o (last-state net p) (lower net p) (upper net p) (path-marks net p) in b .marks .lower && lowers-kept b (deaths vs))
           ≡ (let ws : List Visit = record { path = p; outcome = o } ∷ vs in a .marks .lower && lowers-kept a (deaths ws))
+      go p generators-state = refl
       go p death =
           to-right (a .marks .lower) (lower-kept net p) (total-keeps (a .totals .lower) (lower net p))
           (total-kept total-down (lower net) (lower-kept net) (total-down (a .totals .lower) (lower net p)) (deaths vs))
@@ -84,6 +85,7 @@ module _ (net : Net) where
           → (let b = noted a o (last-state net p) (lower net p) (upper net p) (path-marks net p) in
           b .marks .upper && (deaths-kept b (deaths vs) && cuts-kept b (cuts vs)))
           ≡ (let ws : List Visit = record { path = p; outcome = o } ∷ vs in a .marks .upper && (deaths-kept a (deaths ws) && cuts-kept a (cuts ws)))
+      go p generators-state = by-cut p
       go p death =
           first (a .marks .upper) (upper-kept net p) (total-keeps (a .totals .death-upper) (upper net p))
           (total-kept total-up (upper net) (upper-kept net) (total-up (a .totals .death-upper) (upper net p)) (deaths vs)) (cuts-kept a (cuts vs))

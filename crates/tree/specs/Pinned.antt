@@ -29,9 +29,9 @@ slow-step a b r = record { from = a; to = b; manner = slow r }
 abbrev pub fast-step : ℕ → ℕ → Quantity → Quantity → Quantity → Transition
 fast-step a b m d q = record { from = a; to = b; manner = fast m d q }
 
--- start 1 and a mission time
+-- start 1, a mission time and no generator's state
 abbrev pub net-of : Quantity → List Transition → Net
-net-of time table = record { start = 1; time = time; table = table }
+net-of time table = record { start = 1; time = time; named = []; table = table }
 
 -- rate 0.1
 abbrev pub slow-tenth : ℕ → ℕ → Transition

@@ -1,12 +1,12 @@
--- Document 02, Item 1, "A row for each way to fail": which states have rows, what a row holds, the rows that a caller finds after the call, and
+-- Document 02, Item 1, "A row for each way to fail", and of Item 3 that a generator's state "has no row": which states have rows, what a row holds, the rows that a caller finds after the call, and
 -- refusal 14. Assumes nothing: these are definitions.
 use Prim.Native.Nat.{ℕ, zero, suc}
-use mathlib.Core.Bool.{Bool, true, false, _&&_}
+use mathlib.Core.Bool.{Bool, true, false, not, _&&_}
 use mathlib.Core.List.{List, [], _∷_, _++_, map}
 use lib.ListN.{length, drop}
 use lib.Dec.{ltb, eqb}
 use Rattle.figure.specs.Rounding.{none}
-use Rattle.word.specs.Model.{Net, Model, is-empty, any, only, exits}
+use Rattle.word.specs.Model.{Net, Model, is-empty, any, is-named, only, exits}
 use Rattle.word.specs.Answer.{Answer, then}
 use Rattle.model.specs.Reading.{Finding, first-of, read}
 use Rattle.tree.specs.declared.Row.{Row}
@@ -18,9 +18,9 @@ use Rattle.tree.specs.Report.{Report, report-of, walked}
 
 -- ---- which states have rows
 
--- "each state that has no exits and is the target of a transition", whether a path of the tree reaches it or not
+-- "each state that has no exits and is the target of a transition", whether a path of the tree reaches it or not, unless it is one of the generator's
 unfoldable pub has-row : Net → ℕ → Bool
-has-row net s = is-empty (exits net s) && any (λ t. eqb (t .to) s) (net .table)
+has-row net s = not (is-named net s) && (is-empty (exits net s) && any (λ t. eqb (t .to) s) (net .table))
 
 -- the n numbers from s on
 unfoldable pub numbers-from : ℕ → ℕ → List ℕ

@@ -1,11 +1,12 @@
--- What document 02, Item 1, "A row for each way to fail", says of the rows in words, where the definitions compute: each sentence as a statement, and
+-- What document 02, Item 1, "A row for each way to fail", and Item 3 of a generator's state, say of the rows in words, where the definitions compute: each sentence as a statement, and
 -- all of them in one record. The proof is `faithful-rows` (crates/tree/proofs/RowsFaithful.antt). Assumes nothing: these are statements.
 use Prim.Native.Nat.{ℕ, _≤_, _<_}
 use mathlib.Core.Path.{_≡_}
+use mathlib.Core.Bool.{false}
 use mathlib.Core.Logic.{_↔_}
 use mathlib.Core.List.{List, [], List·Mem, List·Memᴰ}
 use lib.ListN.{length, getD}
-use Rattle.word.specs.Model.{Transition, Model, exits}
+use Rattle.word.specs.Model.{Transition, Model, is-named, exits}
 use Rattle.word.specs.Answer.{Answer}
 use Rattle.model.specs.Reading.{read}
 use Rattle.tree.specs.Paths.{Path, last-state}
@@ -16,10 +17,11 @@ use Rattle.tree.specs.RowsPinned.{RowCasesAgree}
 
 -- ---- which states have rows
 
--- a state, 1 to N, that has no exits, with a transition of the table that arrives there
+-- a state, 1 to N, that is none of the generator's and has no exits, with a transition of the table that arrives there
 pub record HasRow (m : Model) (s : ℕ) : Type 0 where
   pub low : 1 ≤ s
   pub high : s ≤ m .states
+  pub not-named : is-named (m .net) s ≡ false
   pub no-exits : exits (m .net) s ≡ []
   pub by : Transition
   pub in-table : List·Memᴰ by (m .net .table)
@@ -47,7 +49,7 @@ ThousandRowsEnough = (ws : List ℕ) (budget lent : ℕ) → 1000 ≤ lent → a
 -- ---- all of it
 
 pub record FaithfulRows : Type 0 where
-  -- "for each state that has no exits and is the target of a transition"
+  -- "for each state that has no exits and is the target of a transition"; of a generator's, "the state has no row"
   pub row-states-exactly : RowStatesExactly
   -- "in order of state number"
   pub row-states-rise : RowStatesRise

@@ -7,7 +7,7 @@ use mathlib.Core.List.{List, [], _∷_}
 use lib.ListN.{length}
 use Rattle.word.specs.Internal.Lists.{Each}
 use Rattle.word.specs.declared.Quantity.{Quantity}
-use Rattle.word.specs.Model.{Manner, slow, fast, Transition, Model, is-fast, is-empty, exits, has-fast, probability-sum}
+use Rattle.word.specs.Model.{Manner, slow, fast, Transition, Model, is-fast, is-empty, is-named, exits, has-fast, probability-sum}
 
 -- a quantity whose coefficient is from `least` to 999,999 and whose scale is at most `most`
 pub record InRange (least most : ℕ) (q : Quantity) : Type 0 where
@@ -55,3 +55,4 @@ pub record Valid (m : Model) : Type 0 where
   pub distinct : Distinct (m .net .table)
   pub even : (s : ℕ) → has-fast (exits (m .net) s) ≡ true → probability-sum (exits (m .net) s) ≡ 1000000000000
   pub start-exits : is-empty (exits (m .net) (m .net .start)) ≡ false
+  pub named-end : (s : ℕ) → is-named (m .net) s ≡ true → is-empty (exits (m .net) s) ≡ true

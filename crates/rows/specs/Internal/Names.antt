@@ -1,13 +1,12 @@
 -- Which states have rows, as the code finds them: by the index of exits and by marks of the targets. Assumes nothing: these are definitions.
 use Prim.Native.Nat.{ℕ, zero, suc, _≤_, _<_}
 use mathlib.Core.Path.{_≡_}
-use mathlib.Core.Bool.{Bool, true, false, _&&_, _||_}
+use mathlib.Core.Bool.{Bool, true, false, not, _&&_, _||_}
 use mathlib.Core.List.{List, [], _∷_, _++_}
 use lib.ListN.{length, getD}
 use lib.Dec.{eqb}
-use Rattle.word.specs.Model.{Transition, Model}
-use Rattle.model.specs.Index.{no-transition, exit-count}
-use Rattle.tree.specs.Paths.{one-if}
+use Rattle.word.specs.Model.{Transition, Model, one-if}
+use Rattle.model.specs.Index.{no-transition, exit-count, named-flag}
 use Rattle.tree.specs.Rows.{row-states}
 use Rattle.rows.specs.Internal.Table.{row-count, row-state, NoTotals}
 
@@ -26,9 +25,9 @@ pub record Targets (ts : List Transition) (j : ℕ) (targets : List ℕ) : Type 
 -- ---- the list
 
 abbrev pub marked : (index targets : List ℕ) → ℕ → Bool
-marked index targets s = eqb (exit-count index s) 0 && eqb (getD targets s 0) 1
+marked index targets s = not (eqb (named-flag index s) 1) && (eqb (exit-count index s) 0 && eqb (getD targets s 0) 1)
 
--- the states from 1 to n without exits that are marked, in their order
+-- the states from 1 to n that are marked so, in their order
 unfoldable pub listed : (index targets : List ℕ) → ℕ → List ℕ
 listed index targets zero = []
 listed index targets (suc n) = listed index targets n ++ elim (marked index targets (suc n)) [ true ↦ suc n ∷ [] | false ↦ [] ]

@@ -9,7 +9,7 @@ use lib.ListN.{length, getD, set, replicate}
 use lib.Dec.{leb, eqb}
 use Rattle.figure.specs.declared.Figure.{Figure}
 use Rattle.figure.specs.Operations.{of-whole, at-or-below}
-use Rattle.word.specs.Model.{Transition, Net, Limits, is-empty, exits}
+use Rattle.word.specs.Model.{Transition, Net, Limits, is-empty, is-named, exits}
 use Rattle.tree.specs.Paths.{Path, last-state, entries, class, counts-1, class1-count}
 use Rattle.tree.specs.States.{figure-of}
 use Rattle.tree.specs.Upper.{upper-step, upper}
@@ -46,7 +46,7 @@ carry net t c =
 -- what becomes of a path that has n steps left, is at s, had entered s `before` times before, and has the upper u
 unfoldable pub outcome-by : Net → Limits → (n s before : ℕ) → Figure → Outcome
 outcome-by net limits n s before u =
-    decided (is-empty (exits net s)) (leb (limits .entry-limit) before) (eqb n 0) (at-or-below u (figure-of (limits .prune)))
+    decided (is-named net s) (is-empty (exits net s)) (leb (limits .entry-limit) before) (eqb n 0) (at-or-below u (figure-of (limits .prune)))
 
 -- what becomes of what is carried after the step t
 abbrev pub outcome-next : Net → Limits → ℕ → Transition → Carried → Outcome

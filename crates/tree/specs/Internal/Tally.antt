@@ -14,7 +14,7 @@ use Rattle.tree.specs.declared.Row.{Row}
 use Rattle.tree.specs.Paths.{last-state}
 use Rattle.tree.specs.Upper.{upper}
 use Rattle.tree.specs.Lower.{lower}
-use Rattle.tree.specs.Tree.{Outcome, death, entered-too-often, step-limit, low-level, continued, Visit}
+use Rattle.tree.specs.Tree.{Outcome, generators-state, death, entered-too-often, step-limit, low-level, continued, Visit}
 use Rattle.tree.specs.Report.{Report}
 use Rattle.tree.specs.Marks.{Marks, path-marks}
 
@@ -118,6 +118,7 @@ cut-noted a u k = record { totals = with-cut (a .totals) u; rows = a .rows; mark
 
 -- one more path, by what becomes of it, the state that it ends in and its marks
 unfoldable pub noted : Kept → Outcome → (last : ℕ) → (l u : Figure) → Marks → Kept
+noted a generators-state last l u k = cut-noted a u k
 noted a death last l u k = death-noted a last l u k
 noted a entered-too-often last l u k = cut-noted a u k
 noted a step-limit last l u k = cut-noted a u k

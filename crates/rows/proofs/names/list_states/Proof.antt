@@ -1,9 +1,9 @@
 -- `list_states` meets its contract. The loop's invariant: the states up to s were looked at, and those with rows are listed. Assumes nothing.
 use Prim.Native.Nat.{_+_, _-_, _≤_, _<_}
-use mathlib.Core.Path.{_≡_}
+use mathlib.Core.Path.{_≡_, sym, _∙_}
 use native.Mathlib.Omega.{arith}
 use Rattle.rows.specs.Internal.Names.{Listed}
-use Rattle.rows.proofs.RowNames.{marked-true, marked-exits, marked-other, listed-begin, listed-room, listed-more, listed-same}
+use Rattle.rows.proofs.RowNames.{listed-begin, listed-room, listed-more, listed-same}
 use Rattle.rows.proofs.names.list_states.Statement.{statement}
 use Rattle.rows.proofs.names.list_states.Tie as tie
 
@@ -28,17 +28,14 @@ loop-holds c = (omega arith, listed-begin)
 add-s : tie.Need-add-s Inv-loop μ-loop
 add-s c = omega (arith, few c)
 
-exit-count-requires : tie.Need-exit-count-requires Inv-loop μ-loop
-exit-count-requires c κs = omega (arith, few c)
-
-element-copy-out-if2 : tie.Need-element-copy-out-if2 Inv-loop μ-loop
-element-copy-out-if2 c = omega (arith, few (c .before .before))
+has-row-requires : tie.Need-has-row-requires Inv-loop μ-loop
+has-row-requires c κs = omega (arith, few c)
 
 -- the turn, from where a state was found to have a row
-abbrev turn : tie.Then2 Inv-loop μ-loop → In
-turn c = c .before .before .before .before
+abbrev turn : tie.Then1 Inv-loop μ-loop → In
+turn c = c .before .before
 
-room : (c : tie.Then2 Inv-loop μ-loop) → (turn c) .before .loop .n < 1000
+room : (c : tie.Then1 Inv-loop μ-loop) → (turn c) .before .loop .n < 1000
 room c = let l = turn c in listed-room (few l) ((start l) .pre .1) (l .before .loop .inv .1)
 
 add-n : tie.Need-add-n Inv-loop μ-loop
@@ -55,34 +52,19 @@ loop-less c = omega (arith, (turn c) .loop-test .taken)
 
 loop-again : tie.Need-loop-again Inv-loop μ-loop
 loop-again c =
-    let l = turn c in
-    let x = c .before .before in (
+    let l = turn c in (
       omega (arith, l .loop-test .taken),
-      listed-more (few l) ((start l) .pre .1) (l .before .loop .inv .1) (omega arith)
-          (marked-true ((start l) .args .index .now) ((start l) .args .targets .now) (l .before .loop .s + 1) (x .before .exit-count .ensures .0) (x .if1 .taken) (c .if2 .taken)),
+      listed-more (few l) ((start l) .pre .1) (l .before .loop .inv .1) (omega arith) (sym (c .before .has-row .ensures) ∙ c .if1 .taken),
     )
 
 loop-less-2 : tie.Need-loop-less-2 Inv-loop μ-loop
-loop-less-2 c = let l = c .before .before .before .before in omega (arith, l .loop-test .taken)
+loop-less-2 c = let l = c .before .before in omega (arith, l .loop-test .taken)
 
 loop-again-2 : tie.Need-loop-again-2 Inv-loop μ-loop
 loop-again-2 c =
-    let l = c .before .before .before .before in
-    let x = c .before .before in (
-      omega (arith, l .loop-test .taken),
-      listed-same (few l) ((start l) .pre .1) (l .before .loop .inv .1) (omega arith)
-          (marked-other ((start l) .args .index .now) ((start l) .args .targets .now) (l .before .loop .s + 1) (x .before .exit-count .ensures .0) (x .if1 .taken) (c .if2 .left)),
-    )
-
-loop-less-3 : tie.Need-loop-less-3 Inv-loop μ-loop
-loop-less-3 c = let l = c .before .before in omega (arith, l .loop-test .taken)
-
-loop-again-3 : tie.Need-loop-again-3 Inv-loop μ-loop
-loop-again-3 c =
     let l = c .before .before in (
       omega (arith, l .loop-test .taken),
-      listed-same (few l) ((start l) .pre .1) (l .before .loop .inv .1) (omega arith)
-          (marked-exits ((start l) .args .index .now) ((start l) .args .targets .now) (l .before .loop .s + 1) (c .before .exit-count .ensures .0) (c .if1 .left)),
+      listed-same (few l) ((start l) .pre .1) (l .before .loop .inv .1) (omega arith) (sym (c .before .has-row .ensures) ∙ c .if1 .left),
     )
 
 returns : tie.Need-returns Inv-loop μ-loop
@@ -99,8 +81,7 @@ list-states-spec =
     μ-loop
     loop-holds
     add-s
-    exit-count-requires
-    element-copy-out-if2
+    has-row-requires
     add-n
     mul-table
     element-write-table
@@ -108,6 +89,4 @@ list-states-spec =
     loop-again
     loop-less-2
     loop-again-2
-    loop-less-3
-    loop-again-3
     returns)
