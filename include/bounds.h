@@ -36,26 +36,26 @@ extern "C" {
 
 /* ---- The version: major * 1,000,000 + minor * 1,000 + patch. CHANGELOG.md says what each brought. */
 
-#define BOUNDS_VERSION 1003000
+#define BOUNDS_VERSION 1004000
 #define BOUNDS_MAJOR(version) ((int)((version) / 1000000))
 #define BOUNDS_MINOR(version) ((int)((version) / 1000 % 1000))
 #define BOUNDS_PATCH(version) ((int)((version) % 1000))
 
 /* ---- Sizes */
 
-#define BOUNDS_MOST_WORDS 16005      /* a model has at most so many words */
+#define BOUNDS_MOST_WORDS 16105      /* a model has at most so many words */
 #define BOUNDS_MOST_BUDGET 1000000   /* a budget is from 1 to this */
 #define BOUNDS_MOST_ROWS 1000        /* so many rows are enough for every model */
-#define BOUNDS_WORDS_SIZE 16006      /* the words that bounds_words writes */
+#define BOUNDS_WORDS_SIZE (BOUNDS_MOST_WORDS + 1) /* the words that bounds_words writes: one more than a model may have */
 #define BOUNDS_TEXT_SIZE 256         /* the bytes that bounds_text writes */
 #define BOUNDS_STACK 327680          /* the stack that a call needs at most, in bytes */
-#define BOUNDS_SENTENCE_SIZE 128     /* the bytes that bounds_sentence_at writes at most, the zero byte at the end included */
+#define BOUNDS_SENTENCE_SIZE 160     /* the bytes that bounds_sentence_at writes at most, the zero byte at the end included */
 
 /*
  * ---- Refusals
  *
- * A refusal has a number and a place. For 3 to 9 the place is that of a word, counted from 0 (where the words ran out, it is their number);
- * for 10 and 11 it is a state; for 14 it is the number of rows needed; for 1, 2 and 13 it is 0. Only bounds_assess_rows refuses by 14.
+ * A refusal has a number and a place. For 3 to 9 and 15 the place is that of a word, counted from 0 (where the words ran out, it is their number);
+ * for 10, 11 and 16 it is a state; for 14 it is the number of rows needed; for 1, 2 and 13 it is 0. Only bounds_assess_rows refuses by 14.
  * bounds_sentence has a sentence for each that a tool can show. Only 0 is a report: later versions add numbers, and one that a program does not
  * know is a refusal all the same.
  */
@@ -73,13 +73,15 @@ enum bounds_refusal {
     BOUNDS_BIT_SET = 4,
     BOUNDS_QUANTITY_OUT_OF_RANGE = 5,
     BOUNDS_FIELD_OUT_OF_RANGE = 6,
+    BOUNDS_STATE_NOT_GREATER = 15,
 
     /* By whoever drew the model. */
     BOUNDS_SELF_TRANSITION = 7,
     BOUNDS_DUPLICATE_TRANSITION = 8,
     BOUNDS_TOO_MANY_TRANSITIONS = 9,
     BOUNDS_PROBABILITIES_NOT_ONE = 10,
-    BOUNDS_START_WITHOUT_EXITS = 11
+    BOUNDS_START_WITHOUT_EXITS = 11,
+    BOUNDS_NAMED_STATE_WITH_EXITS = 16
 };
 
 /* What bounds_ask and bounds_ask_rows answer where the archive is not of the header's version; no number of the documents'. */
@@ -102,8 +104,9 @@ typedef struct {
  * ---- Rows: one for each way to fail
  *
  * A row has the two figures for one state without exits, of the paths that end in that state alone: the accuracy rule holds for it over these.
- * The paths that were cut are in no row. A model has a row for each state without exits that is the target of a transition, reached or not; where
- * no path ends in the state, both figures are zero. The rounded figures of the rows need not add up to those of the report.
+ * The paths that were cut are in no row. A model has a row for each state without exits that is the target of a transition, reached or not, and that
+ * the words do not name as the generator's; where no path ends in the state, both figures are zero. The rounded figures of the rows need not add up
+ * to those of the report.
  */
 typedef struct {
     uint64_t state; /* its number, from 1 */
@@ -119,7 +122,7 @@ enum bounds_value {
     BOUNDS_PLACE,        /* a refusal's place; 0 in a report */
     BOUNDS_LOWER_DIGITS, /* the figures and counts of a report; all 0 in a refusal */
     BOUNDS_UPPER_DIGITS,
-    BOUNDS_CUT_DIGITS, /* the cut paths' part of the upper figure */
+    BOUNDS_CUT_DIGITS, /* the cut paths' part of the upper figure: those that a limit ended, and those that end in a generator's state */
     BOUNDS_DEATHS,
     BOUNDS_CUTS,
     BOUNDS_STEPS,
@@ -148,10 +151,9 @@ uint64_t bounds_assess(const uint32_t *words, size_t count, uint64_t budget, uin
 
 /*
  * The same answer, and in `rows` the bounds on each way to fail. The first of the `row_count` rows are filled, in order of state number, one for
- * each state without exits that is the target of a transition; rows behind these are unchanged. Where there are fewer rows than such states, it
- * refuses by 14, with the number of rows needed as its place: after every other refusal but 13, which is the walk's. With BOUNDS_MOST_ROWS rows
- * that never happens. A refusal by 13 fills the rows with their state numbers and zeros; any other changes none. `rows` is not null, also where
- * `row_count` is 0.
+ * each state that has a row (see "Rows"); rows behind these are unchanged. Where there are fewer rows than such states, it refuses by 14, with
+ * the number of rows needed as its place: after every other refusal but 13, which is the walk's. With BOUNDS_MOST_ROWS rows that never happens.
+ * A refusal by 13 fills the rows with their state numbers and zeros; any other changes none. `rows` is not null, also where `row_count` is 0.
  *
  * How many rows were filled is not handed back. A caller who wants to know sets the states of all rows to 0 before: the filled ones have states from
  * 1 on. bounds_ask_rows does so.
@@ -168,8 +170,8 @@ size_t bounds_text(const uint32_t *words, size_t count, uint64_t budget, uint8_t
 
 /*
  * The words of a model that is held as bytes, four bytes a word, least significant first; left-over bytes are one more word, of no kind.
- * Returns how many there are, at most BOUNDS_WORDS_SIZE; they are the first of `words`, and what the rest then holds is free. Of more than
- * 64,024 bytes it takes the first 64,024: these are already more words than a model may have, and bounds_assess refuses them (1). It refuses
+ * Returns how many there are, at most BOUNDS_WORDS_SIZE; they are the first of `words`, and what the rest then holds is free. Of more bytes than
+ * so many words have it takes the first: these are already more words than a model may have, and bounds_assess refuses them (1). It refuses
  * nothing itself.
  */
 size_t bounds_words(const uint8_t *bytes, size_t count, uint32_t words[BOUNDS_WORDS_SIZE]);
@@ -275,7 +277,7 @@ static inline const char *bounds_sentence(uint64_t refusal)
     case BOUNDS_REPORTED:
         return "";
     case BOUNDS_TOO_MANY_WORDS:
-        return "The model has more than 16,005 words.";
+        return "The model has more than 16,105 words.";
     case BOUNDS_BUDGET_OUT_OF_RANGE:
         return "The budget must be from 1 to 1,000,000 steps.";
     case BOUNDS_OVER_BUDGET:
@@ -290,16 +292,20 @@ static inline const char *bounds_sentence(uint64_t refusal)
         return "The quantity in word PLACE is out of range.";
     case BOUNDS_FIELD_OUT_OF_RANGE:
         return "Word PLACE has an edition, state or limit out of range.";
+    case BOUNDS_STATE_NOT_GREATER:
+        return "The state named by word PLACE is not greater than the one named before it.";
     case BOUNDS_SELF_TRANSITION:
         return "The transition at word PLACE leads from a state to itself.";
     case BOUNDS_DUPLICATE_TRANSITION:
         return "The transition at word PLACE repeats an earlier one between the same two states.";
     case BOUNDS_TOO_MANY_TRANSITIONS:
-        return "The transition at word PLACE is the 17th exit of its state or the 4,001st of the model.";
+        return "Word PLACE is the 17th exit of its state, the 4,001st transition or the 101st word that names a generator's state.";
     case BOUNDS_PROBABILITIES_NOT_ONE:
         return "The probabilities of the fast exits of state PLACE do not add up to exactly 1.";
     case BOUNDS_START_WITHOUT_EXITS:
         return "The start state PLACE has no exits.";
+    case BOUNDS_NAMED_STATE_WITH_EXITS:
+        return "State PLACE is named as the generator's and has exits.";
     case BOUNDS_OTHER_VERSION:
         return "The library is not of the version that this program was built for.";
     default:

@@ -29,16 +29,16 @@ from fractions import Fraction
 from pathlib import Path
 from typing import NamedTuple
 
-VERSION = 1003000  # major * 1,000,000 + minor * 1,000 + patch, as BOUNDS_VERSION in include/bounds.h
-MOST_WORDS = 16005
+VERSION = 1004000  # major * 1,000,000 + minor * 1,000 + patch, as BOUNDS_VERSION in include/bounds.h
+MOST_WORDS = 16105
 MOST_BUDGET = 1000000
 MOST_ROWS = 1000
-WORDS_SIZE = 16006
+WORDS_SIZE = MOST_WORDS + 1  # what bounds_words writes at most
 TEXT_SIZE = 256
 
 # The sentences of docs/REPORT.md; where one says PLACE, the place belongs.
 SENTENCES = {
-    1: "The model has more than 16,005 words.",
+    1: "The model has more than 16,105 words.",
     2: "The budget must be from 1 to 1,000,000 steps.",
     3: "Word PLACE is missing, or is not of the kind that belongs there.",
     4: "Word PLACE has a bit set that must be zero.",
@@ -46,11 +46,13 @@ SENTENCES = {
     6: "Word PLACE has an edition, state or limit out of range.",
     7: "The transition at word PLACE leads from a state to itself.",
     8: "The transition at word PLACE repeats an earlier one between the same two states.",
-    9: "The transition at word PLACE is the 17th exit of its state or the 4,001st of the model.",
+    9: "Word PLACE is the 17th exit of its state, the 4,001st transition or the 101st word that names a generator's state.",
     10: "The probabilities of the fast exits of state PLACE do not add up to exactly 1.",
     11: "The start state PLACE has no exits.",
     13: "The model has more steps than the budget allows.",
     14: "Fewer rows were lent than the PLACE that the model needs.",
+    15: "The state named by word PLACE is not greater than the one named before it.",
+    16: "State PLACE is named as the generator's and has exits.",
 }
 
 
@@ -59,7 +61,7 @@ class Error(Exception):
 
 
 class Refused(Error):
-    """The library turned the model away. A place is that of a word, counted from 0, or a state (10, 11), or the number of rows needed (14)."""
+    """The library turned the model away. A place is that of a word, counted from 0, or a state (10, 11, 16), or the number of rows needed (14)."""
 
     def __init__(self, number, place):
         self.number, self.place = number, place
@@ -231,8 +233,9 @@ class Library:
         return _report(number, values, powers)
 
     def assess_rows(self, words, budget=MOST_BUDGET, lent=MOST_ROWS):
-        """The report on a model's words, and a Row for each state without exits that is the target of a transition, in order of state number. Lends so
-        many rows; the default is enough for every model. Raises Refused (14 where they are too few), or another Error, and then hands no rows back."""
+        """The report on a model's words, and a Row for each state without exits that is the target of a transition and that the words do not name as the
+        generator's, in order of state number. Lends so many rows; the default is enough for every model. Raises Refused (14 where they are too few), or
+        another Error, and then hands no rows back."""
         values, powers = (ctypes.c_uint64 * self._VALUES)(), (ctypes.c_int32 * self._POWERS)()
         count_of_rows = _whole(lent, "the number of rows")
         rows = (_LentRow * max(1, count_of_rows))()

@@ -14,6 +14,8 @@ import bounds  # noqa: E402
 
 DATA = Path(__file__).resolve().parent.parent / "reference" / "tests" / "data"
 MODEL_A = [0x11002001, 0x2000000A, 0x30000000, 0x41801000, 0x50001002, 0x60400001, 0xF0000000]
+HEAD = [0x11005001, 0x2000000A, 0x30000000, 0x41801000]
+TRANSITIONS = [0x50001002, 0x60400001, 0x50001003, 0x60400001, 0x50002004, 0x60400001, 0x50002005, 0x60400001, 0xF0000000]
 
 
 def answered(library, words, budget):
@@ -70,6 +72,32 @@ class Calls(unittest.TestCase):
             with self.assertRaises(ValueError):
                 self.library.assess_rows(MODEL_A, lent=lent)
 
+    def test_named_states(self):
+        """Case 03-000-named of the answers of other hands, and further ones with other words that name the generator's states."""
+        report, rows = self.library.assess_rows([*HEAD, 0xC0000003, 0xC0000005, *TRANSITIONS])
+        self.assertEqual((str(report.lower), str(report.upper), str(report.cut)), ("4.99333333E-7", "1.00100000E-3", "1.00050000E-3"))
+        self.assertEqual((report.deaths, report.cuts, report.steps), (1, 2, 4))
+        self.assertEqual(rows, [bounds.Row(4, report.lower, bounds.Figure.parse("5E-7"))])
+        for named, expected in (
+            ([0xC0000003, 0xC0000002], "refused 15 at 5: The state named by word 5 is not greater than the one named before it."),
+            ([0xC0000003, 0xC0000003], "refused 15 at 5: The state named by word 5 is not greater than the one named before it."),
+            ([0xC0000002, 0xC0000003], "refused 16 at 2: State 2 is named as the generator's and has exits."),
+            ([0xC8000003, 0xC0000005], "refused 4 at 4: Word 4 has a bit set that must be zero."),
+            ([0xC0000003, 0xC0000006], "refused 6 at 5: Word 5 has an edition, state or limit out of range."),
+        ):
+            with self.assertRaises(bounds.Refused) as raised:
+                self.library.assess([*HEAD, *named, *TRANSITIONS])
+            self.assertEqual(str(raised.exception), expected)
+
+    def test_numbers(self):
+        """Only 0 is a report, and a number that is not known is an error of its own."""
+        numbers = [5, 999500000, 100000000, 0, 1, 0, 1, 1, 1]
+        known = {*range(1, 12), 13, 14, 15, 16}
+        for number in [*range(1, 65), 2**64 - 1]:
+            with self.assertRaises(bounds.Refused if number in known else bounds.UnknownRefusal) as raised:
+                bounds._report(number, numbers, [-12, -11, 0])
+            self.assertEqual((raised.exception.number, raised.exception.place), (number, 5))
+
     def test_marks(self):
         """Each mark stands in its own place, and only 0 and 1 are marks."""
         numbers = [0, 999500000, 100000000, 0, 1, 0, 1]
@@ -86,7 +114,8 @@ class Calls(unittest.TestCase):
         with self.assertRaises(bounds.Refused) as raised:
             self.library.assess(MODEL_A[:6])
         self.assertEqual(str(raised.exception), "refused 3 at 6: Word 6 is missing, or is not of the kind that belongs there.")
-        self.assertEqual(answered(self.library, [0] * 16006, 0), "refused 1 at 0\n")
+        self.assertEqual(answered(self.library, [0] * bounds.MOST_WORDS, 1), "refused 3 at 0\n")
+        self.assertEqual(answered(self.library, [0] * (bounds.MOST_WORDS + 1), 0), "refused 1 at 0\n")
         self.assertEqual(answered(self.library, [], 1), "refused 3 at 0\n")
 
     def test_what_is_no_word_and_no_budget(self):
@@ -100,7 +129,8 @@ class Calls(unittest.TestCase):
     def test_bytes(self):
         self.assertEqual(self.library.words_of(b""), [])
         self.assertEqual(self.library.words_of(b"\1\2\3\4\5"), [0x04030201, 0])
-        self.assertEqual(len(self.library.words_of(bytes(100000))), 16006)
+        self.assertEqual(len(self.library.words_of(bytes(4 * bounds.MOST_WORDS))), bounds.MOST_WORDS)
+        self.assertEqual(len(self.library.words_of(bytes(8 * bounds.MOST_WORDS))), bounds.WORDS_SIZE)
         # the bytes of a buffer count, not its items
         self.assertEqual(self.library.words_of(array("I", MODEL_A)), MODEL_A)
         with self.assertRaises(TypeError):

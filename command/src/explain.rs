@@ -8,21 +8,36 @@ use std::io::Write;
 
 /// The places in the file that a refusal speaks of, if there are any.
 pub fn spots(model: &Model, refusal: Refusal) -> Vec<Spot> {
+    let state = refusal.place;
     match (refusal.reason.place(), refusal.reason) {
         (Place::Word, _) => {
             usize::try_from(refusal.place).ok().and_then(|at| model.spot(at)).into_iter().collect()
         }
         (Place::State, Reason::StartWithoutExits) => model.start().into_iter().collect(),
-        (Place::State, _) => fast_exits(model, refusal.place),
+        (Place::State, Reason::ProbabilitiesNotOne) => {
+            spots_where(model, |word| leaves(word, state) && word >> 28 == kind::FAST)
+        }
+        (Place::State, Reason::NamedStateWithExits) => {
+            spots_where(model, |word| names(word, state) || leaves(word, state))
+        }
         _ => Vec::new(),
     }
 }
 
-/// The fast transitions out of a state.
-fn fast_exits(model: &Model, state: u64) -> Vec<Spot> {
-    let leaves = |word: u32| word >> 28 == kind::FAST && u64::from(word >> 12 & 0xFFF) == state;
-    let places = model.words.iter().enumerate().filter(|(_, word)| leaves(**word));
+/// Where the words stood for which something holds.
+fn spots_where(model: &Model, holds: impl Fn(u32) -> bool) -> Vec<Spot> {
+    let places = model.words.iter().enumerate().filter(|(_, word)| holds(**word));
     places.filter_map(|(at, _)| model.spot(at)).collect()
+}
+
+/// Whether a word is that of a transition out of a state.
+fn leaves(word: u32, state: u64) -> bool {
+    matches!(word >> 28, kind::SLOW | kind::FAST) && u64::from(word >> 12 & 0xFFF) == state
+}
+
+/// Whether a word names a state as the generator's.
+fn names(word: u32, state: u64) -> bool {
+    word >> 28 == kind::PRUNED_STATE && u64::from(word & 0xFFF) == state
 }
 
 /// Writes the refusal, for a reader or for a program.

@@ -66,6 +66,64 @@ fn rows() -> Tested {
     Ok(())
 }
 
+/// Case 03-000-named of the answers of other hands: the generator pruned states 3 and 5.
+const PRUNED: &str =
+    "states 5\nstart 1\ntime 10\nprune 0\nsteps 24\nentries 1\npruned 3\npruned 5\n\
+                      slow 1 2 1e-4\nslow 1 3 1e-4\nslow 2 4 1e-4\nslow 2 5 1e-4\n";
+
+/// What ends in a pruned state is cut; it has no row.
+#[test]
+fn pruned_states() -> Tested {
+    let expected = "lower 4.99333333E-7\nupper 1.00100000E-3\ncut 1.00050000E-3\n\
+                    deaths 1\ncuts 2\nsteps 4\nexact 01\n";
+    assert_eq!(said(&["report", "-"], PRUNED)?, (0, expected.into(), "".into()));
+    let expected = "state  lower          upper          share\n\
+                    4      4.99333333E-7  5.00000000E-7  0.05%\n\
+                    cut    -              1.00050000E-3  99.95%\n\
+                    all    4.99333333E-7  1.00100000E-3  100.00%\n";
+    assert_eq!(said(&["rows", "-"], PRUNED)?, (0, expected.into(), "".into()));
+    let (status, out, _) = said(&["sweep", "-", "--rate", "1=1e-4"], PRUNED)?;
+    let expected =
+        "1e-4       4.99333333E-7  1.00100000E-3  1.00050000E-3  1       2     4      01";
+    assert_eq!((status, out.lines().nth(1)), (0, Some(expected)));
+    let digits = said(&["words", "--hex", "-"], PRUNED)?.1;
+    assert!(digits.contains("\n41801000\nC0000003\nC0000005\n50001002\n"), "{digits}");
+    assert_eq!(said(&["text", "-"], &digits)?.1, PRUNED);
+    assert_eq!(said(&["line", "-", "5"], PRUNED)?.1, "8: pruned 5\n");
+    Ok(())
+}
+
+/// The lines that a refusal of pruned states speaks of: the line of the word, or that of the state with its exits.
+#[test]
+fn refusals_of_pruned_states() -> Tested {
+    for (old, new, expected) in [
+        (
+            "pruned 5",
+            "pruned 2",
+            "refused 15 at 5\nThe state named by word 5 is not greater than the one named before it.\n  -:8: pruned 2\nLook at: ",
+        ),
+        ("pruned 5", "pruned 3", "refused 15 at 5\n"),
+        (
+            "pruned 3\npruned 5",
+            "pruned 2\npruned 3",
+            "refused 16 at 2\nState 2 is named as the generator's and has exits.\n  -:7: pruned 2\n  -:11: slow 2 4 1e-4\n  -:12: slow 2 5 1e-4\nLook at: ",
+        ),
+        ("start 1", "start 3", "refused 11 at 3\nThe start state 3 has no exits.\n  -:2: start 3\n"),
+    ] {
+        let (status, out, _) = said(&["report", "-"], &PRUNED.replace(old, new))?;
+        assert_eq!(status, 1);
+        assert!(out.starts_with(expected), "{out}");
+    }
+    let with_exits = PRUNED.replace("pruned 3\npruned 5", "pruned 2\npruned 3");
+    let digits = said(&["words", "--hex", "-"], &with_exits)?.1;
+    let (_, out, _) = said(&["report", "-", "--json"], &digits)?;
+    assert!(
+        out.contains("[{\"line\": 5, \"word\": 4, \"text\": \"C0000002\"}, {\"line\": 11, "),
+        "{out}"
+    );
+    Ok(())
+}
+
 /// A state that no path ends in has a row without a share; a model whose paths are all cut has no row.
 #[test]
 fn rows_without_a_share() -> Tested {
@@ -189,6 +247,7 @@ fn what_is_no_input() -> Tested {
         (&["report", "-", "--as", "pages"], DIGITS_A, "bounds: --as pages: expected lines, "),
         (&["report", "-", "--yaml"], DIGITS_A, "bounds: --yaml is no option; there are "),
         (&["report"], "", "bounds: expected FILE"),
+        (&["report", "-"], "states 2\npruned 2\n", "bounds: -:2: start is missing: it stands "),
         (&["text", "-"], "11002001 2000000A", "bounds: -: word 2: the words end"),
         (&["line", "-", "7"], DIGITS_A, "bounds: -: 7 is no place: expected 0 to 6"),
         (

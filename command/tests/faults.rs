@@ -35,6 +35,36 @@ fn lines() {
     }
 }
 
+/// A pruned state stands behind the head and before the transitions, and is one state of the model. What else is wrong with it (not greater than the one
+/// before, with exits, the 101st), the library says.
+#[test]
+fn pruned_states() -> Result<(), bounds_command::model::Fault> {
+    for (rest, at, expected) in [
+        ("pruned 3\nslow 1 2 1e-4\n", 0, ""),
+        ("pruned 3 # dropped\n\npruned 2\npruned 2\nslow 2 3 1e-4\n", 0, ""),
+        ("pruned\n", 7, "a pruned state is written: pruned STATE"),
+        ("pruned 2 3\n", 7, "a pruned state is written: pruned STATE"),
+        ("pruned 0\n", 7, "0 is no whole number from 1 to 3"),
+        ("pruned 2\npruned 4\n", 8, "4 is no whole number from 1 to 3"),
+        ("pruned 1e0\n", 7, "1e0 is no whole number from 1 to 3"),
+        ("pruned three\n", 7, "three is no whole number from 1 to 3"),
+        ("pruned 3\nslow 1 2 1e-4\npruned 2\n", 9, "pruned stands after the first transition"),
+        ("pruned 3\nprune 0\n", 8, "prune stands after the first pruned state"),
+        ("pruned 3\nmedium 3\n", 8, "medium is no name of a line: expected states, "),
+    ] {
+        let fault = text::words_of(&format!("{HEAD}{rest}")).err();
+        let (line, why) = fault.map_or((0, String::new()), |fault| (fault.at, fault.why));
+        assert_eq!(line, at, "{rest}");
+        assert!(why.starts_with(expected), "{rest}: {why}");
+    }
+    let fault = text::words_of("states 3\npruned 3\nstart 1\n").err();
+    let (line, why) = fault.map_or((0, String::new()), |fault| (fault.at, fault.why));
+    assert_eq!((line, why.starts_with("start is missing: it stands before pruned ")), (2, true));
+    let many: String = (0..101).map(|_| "pruned 3\n").collect();
+    assert_eq!(text::words_of(&format!("{HEAD}{many}"))?.words.len(), 4 + 101 + 1);
+    Ok(())
+}
+
 /// A line ends in LF or CR LF, and no other break hides what follows it behind a comment.
 #[test]
 fn breaks() {
@@ -100,6 +130,9 @@ fn head_lines() {
 fn the_line_of_a_word() -> Result<(), bounds_command::model::Fault> {
     let written = text::words_of(&format!("{HEAD}slow 1 2 1e-4\n# rest\nfast 2 3 1e-4 0 1\n"))?;
     assert_eq!(written.lines, [1, 3, 4, 5, 7, 7, 9, 9, 9, 9, 9]);
+    let written = text::words_of(&format!("{HEAD}pruned 2\n\npruned 3\nslow 1 2 1e-4\n"))?;
+    assert_eq!(written.lines, [1, 3, 4, 5, 7, 9, 10, 10, 10]);
+    assert_eq!(written.words[4..6], [0xC0000002, 0xC0000003]);
     Ok(())
 }
 
@@ -121,6 +154,8 @@ fn words_that_no_lines_spell() {
     assert_eq!(place(3, 0x41801001), Some(3));
     assert_eq!(place(4, 0x51001002), Some(4));
     assert_eq!(place(4, 0x50001003), Some(4));
+    assert_eq!(place(4, 0xC0000002), Some(5));
+    assert_eq!(place(6, 0xC0000002), Some(6));
     assert_eq!(place(5, 0x80400001), Some(5));
     assert_eq!(place(6, 0xF0000001), Some(6));
     assert_eq!(words::text_of(&model[..6]).err().map(|fault| fault.at), Some(6));
@@ -128,6 +163,24 @@ fn words_that_no_lines_spell() {
     let mut longer = model.to_vec();
     longer.push(0);
     assert_eq!(words::text_of(&longer).err().map(|fault| fault.at), Some(7));
+}
+
+/// Words that name pruned states, between the caps and the transitions: any number of them, in any order.
+#[test]
+fn words_of_pruned_states() {
+    let head = [0x11003001, 0x2000000A, 0x30000000, 0x41801000];
+    let rest = [0x50001002, 0x60400001, 0xF0000000];
+    let read = |named: &[u32]| words::text_of(&[&head, named, &rest].concat());
+    let lines = "states 3\nstart 1\ntime 10\nprune 0\nsteps 24\nentries 1\npruned 3\npruned 2\nslow 1 2 1e-4\n";
+    assert_eq!(read(&[0xC0000003, 0xC0000002]), Ok(lines.into()));
+    assert!(words::text_of(&[&head[..], &[0xC0000003, 0xF0000000]].concat()).is_ok());
+    for (word, at) in [(0xC0000000, 5), (0xC0000004, 5), (0xC0001003, 5), (0xC8000003, 5)] {
+        let place = read(&[0xC0000003, word]).err().map(|fault| fault.at);
+        assert_eq!(place, Some(at), "{word:08X}");
+    }
+    let place = |words: &[u32]| words::text_of(words).err().map(|fault| fault.at);
+    assert_eq!(place(&[&head[..], &[0xC0000003]].concat()), Some(5));
+    assert_eq!(place(&[&head[..3], &[0xC0000003, 0x41801000]].concat()), Some(3));
 }
 
 #[test]

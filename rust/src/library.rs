@@ -47,9 +47,9 @@ pub fn assess(words: &[u32], budget: u64) -> Result<Report, Error> {
 }
 
 /// The report on a model's words, and the bounds on each way to fail: the rows that were filled, the first of `rows`, in order of state number, one for
-/// each state without exits that is the target of a transition. Rows behind them are unchanged. Where `rows` are too few, the model is refused
-/// ([`Reason::TooFewRows`], with the number that is needed as its place); [`MOST_ROWS`] are always enough. A model that is refused as
-/// [`Reason::OverBudget`] has its rows filled with state numbers and zeros; any other error changes no row.
+/// each state without exits that is the target of a transition and that the words do not name as the generator's. Rows behind them are unchanged. Where
+/// `rows` are too few, the model is refused ([`Reason::TooFewRows`], with the number that is needed as its place); [`MOST_ROWS`] are always enough. A model
+/// that is refused as [`Reason::OverBudget`] has its rows filled with state numbers and zeros; any other error changes no row.
 pub fn assess_rows<'a>(
     words: &[u32],
     budget: u64,
@@ -121,7 +121,7 @@ pub fn text(words: &[u32], budget: u64) -> Result<Text, Error> {
 }
 
 /// The words of a model that is held as bytes, four bytes a word, least significant first: the first of `words`, as many as are handed back. Left-over
-/// bytes are one more word, of no kind. Of more bytes than 16,006 words have, those words are handed back, which [`assess`] refuses.
+/// bytes are one more word, of no kind. Of more bytes than [`WORDS_SIZE`] words have, those words are handed back, which [`assess`] refuses.
 pub fn words_of<'a>(bytes: &[u8], words: &'a mut [u32; WORDS_SIZE]) -> Result<&'a [u32], Error> {
     version::agreed(version::library_version())?;
     // SAFETY: as in `assess`.
@@ -161,7 +161,7 @@ mod tests {
     #[test]
     fn every_number() {
         for number in (0..=64).chain([u64::MAX - 1, u64::MAX]) {
-            let known = (1..=11).contains(&number) || number == 13 || number == 14;
+            let known = (1..=11).contains(&number) || (13..=16).contains(&number);
             match answer(number, VALUES_A, POWERS_A) {
                 Ok(report) => {
                     assert_eq!(number, 0);

@@ -26,6 +26,8 @@ pub enum Reason {
     OverBudget,
     /// Only of [`crate::assess_rows`].
     TooFewRows,
+    StateNotGreater,
+    NamedStateWithExits,
 }
 
 /// Who can mend what a refusal names.
@@ -61,7 +63,7 @@ struct Entry {
 }
 
 impl Reason {
-    pub const ALL: [Reason; 13] = [
+    pub const ALL: [Reason; 15] = [
         Reason::TooManyWords,
         Reason::BudgetOutOfRange,
         Reason::WrongKind,
@@ -75,6 +77,8 @@ impl Reason {
         Reason::StartWithoutExits,
         Reason::OverBudget,
         Reason::TooFewRows,
+        Reason::StateNotGreater,
+        Reason::NamedStateWithExits,
     ];
 
     /// The rows of the table in docs/REPORT.md; tests/wording compares them.
@@ -84,7 +88,7 @@ impl Reason {
                 number: 1,
                 party: Party::Caller,
                 place: Place::Nothing,
-                sentence: "The model has more than 16,005 words.",
+                sentence: "The model has more than 16,105 words.",
                 advice: "The wrong file, or more than 4,000 transitions. Left-over bytes count as one more word.",
             },
             Reason::BudgetOutOfRange => Entry {
@@ -106,7 +110,7 @@ impl Reason {
                 party: Party::WhoWroteTheWords,
                 place: Place::Word,
                 sentence: "Word PLACE has a bit set that must be zero.",
-                advice: "Bits 27 to 24 of a transition, 11 to 0 of the caps, 27 to 0 of the end.",
+                advice: "Bits 27 to 24 of a transition, 11 to 0 of the caps, 27 to 12 of a word that names a generator's state, 27 to 0 of the end.",
             },
             Reason::QuantityOutOfRange => Entry {
                 number: 5,
@@ -140,8 +144,8 @@ impl Reason {
                 number: 9,
                 party: Party::WhoDrewTheModel,
                 place: Place::Word,
-                sentence: "The transition at word PLACE is the 17th exit of its state or the 4,001st of the model.",
-                advice: "Put exits together that lead to equal states.",
+                sentence: "Word PLACE is the 17th exit of its state, the 4,001st transition or the 101st word that names a generator's state.",
+                advice: "Put exits together that lead to equal states; let one state stand for all that the generator dropped.",
             },
             Reason::ProbabilitiesNotOne => Entry {
                 number: 10,
@@ -169,7 +173,21 @@ impl Reason {
                 party: Party::Caller,
                 place: Place::Rows,
                 sentence: "Fewer rows were lent than the PLACE that the model needs.",
-                advice: "The call. A row is needed for each state without exits that is the target of a transition; 1,000 are always enough.",
+                advice: "The call. A row is needed for each state without exits that is a transition's target and not the generator's; 1,000 are always enough.",
+            },
+            Reason::StateNotGreater => Entry {
+                number: 15,
+                party: Party::WhoWroteTheWords,
+                place: Place::Word,
+                sentence: "The state named by word PLACE is not greater than the one named before it.",
+                advice: "The generator's states are named once each, in rising order.",
+            },
+            Reason::NamedStateWithExits => Entry {
+                number: 16,
+                party: Party::WhoDrewTheModel,
+                place: Place::State,
+                sentence: "State PLACE is named as the generator's and has exits.",
+                advice: "Take its exits out, or do not name it: a path that ends there is cut.",
             },
         }
     }

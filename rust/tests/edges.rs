@@ -40,6 +40,50 @@ fn refusals() {
     refused(&vec![0; MOST_WORDS], 1, Reason::WrongKind, 0);
 }
 
+/// Case 03-000-named of the answers of other hands: states 3 and 5 are the generator's.
+const NAMED: [u32; 15] = [
+    0x11005001, 0x2000000A, 0x30000000, 0x41801000, 0xC0000003, 0xC0000005, 0x50001002, 0x60400001,
+    0x50001003, 0x60400001, 0x50002004, 0x60400001, 0x50002005, 0x60400001, 0xF0000000,
+];
+
+/// The paths that end in a named state are cut, and the state has no row.
+#[test]
+fn named_states() -> Result<(), Box<dyn Error>> {
+    let report = bounds::assess(&NAMED, MOST_BUDGET)?;
+    let expected =
+        "lower 4.99333333E-7\nupper 1.00100000E-3\ncut 1.00050000E-3\ndeaths 1\ncuts 2\nsteps 4\nexact 01";
+    assert_eq!(report.to_string(), expected);
+    let mut room = [Row::default(); 2];
+    let (again, rows) = bounds::assess_rows(&NAMED, MOST_BUDGET, &mut room)?;
+    let of_4 = Row { state: 4, lower: "4.99333333E-7".parse()?, upper: "5E-7".parse()? };
+    assert_eq!((again, rows), (report, &[of_4][..]));
+    let few = bounds::assess_rows(&NAMED, MOST_BUDGET, &mut []).map(|_| ());
+    assert_eq!(few, Err(NoReport::Refused(Refusal { reason: Reason::TooFewRows, place: 1 })));
+    Ok(())
+}
+
+/// Further cases of the same answers: [`NAMED`] with other words that name states.
+#[test]
+fn refusals_of_named_states() {
+    for (first, second, reason, place) in [
+        (0xC0001000, 0xC0000005, Reason::BitSet, 4),
+        (0xC8000003, 0xC0000005, Reason::BitSet, 4),
+        (0xC0000000, 0xC0000005, Reason::FieldOutOfRange, 4),
+        (0xC0000003, 0xC0000006, Reason::FieldOutOfRange, 5),
+        (0xC0000003, 0xC0000003, Reason::StateNotGreater, 5),
+        (0xC0000003, 0xC0000002, Reason::StateNotGreater, 5),
+        (0xC0000003, 0xC0000000, Reason::FieldOutOfRange, 5),
+        (0xC0000003, 0xC0001003, Reason::BitSet, 5),
+        (0xC0000002, 0xC0000003, Reason::NamedStateWithExits, 2),
+        (0xC0000001, 0xC0000002, Reason::NamedStateWithExits, 1),
+    ] {
+        let mut words = NAMED;
+        (words[4], words[5]) = (first, second);
+        let expected = Err(NoReport::Refused(Refusal { reason, place }));
+        assert_eq!(bounds::assess(&words, MOST_BUDGET), expected, "{first:08X} {second:08X}");
+    }
+}
+
 /// Model A needs one row. Rows of an earlier call stay behind those that are filled.
 #[test]
 fn rows() -> Result<(), NoReport> {
@@ -83,7 +127,15 @@ fn rows_over_the_budget() {
 fn sentences() {
     let sentence = |reason, place| Refusal { reason, place }.sentence().to_string();
     assert_eq!(sentence(Reason::StartWithoutExits, 17), "The start state 17 has no exits.");
-    assert_eq!(sentence(Reason::TooManyWords, 0), "The model has more than 16,005 words.");
+    assert_eq!(sentence(Reason::TooManyWords, 0), "The model has more than 16,105 words.");
+    assert_eq!(
+        sentence(Reason::StateNotGreater, 5),
+        "The state named by word 5 is not greater than the one named before it."
+    );
+    assert_eq!(
+        sentence(Reason::NamedStateWithExits, 2),
+        "State 2 is named as the generator's and has exits."
+    );
     assert_eq!(
         sentence(Reason::TooFewRows, 3),
         "Fewer rows were lent than the 3 that the model needs."
@@ -99,8 +151,9 @@ fn bytes() -> Result<(), NoReport> {
     let mut room = [7; WORDS_SIZE];
     assert_eq!(bounds::words_of(&[], &mut room)?, []);
     assert_eq!(bounds::words_of(&[1, 2, 3, 4, 5], &mut room)?, [0x04030201, 0]);
-    assert_eq!(bounds::words_of(&[0; 64_021], &mut room)?.len(), 16_006);
-    assert_eq!(bounds::words_of(&[0; 100_000], &mut room)?.len(), 16_006);
+    assert_eq!(bounds::words_of(&[0; 4 * MOST_WORDS], &mut room)?.len(), MOST_WORDS);
+    assert_eq!(bounds::words_of(&[0; 4 * MOST_WORDS + 1], &mut room)?.len(), WORDS_SIZE);
+    assert_eq!(bounds::words_of(&[0; 8 * MOST_WORDS], &mut room)?.len(), WORDS_SIZE);
     Ok(())
 }
 

@@ -13,12 +13,13 @@ fn header() {
         ("MOST_WORDS", MOST_WORDS as u64),
         ("MOST_BUDGET", MOST_BUDGET),
         ("MOST_ROWS", MOST_ROWS as u64),
-        ("WORDS_SIZE", WORDS_SIZE as u64),
         ("STACK", STACK as u64),
     ];
     for (name, size) in sizes {
         assert!(header.contains(&format!("#define BOUNDS_{name} {size} ")), "{name}");
     }
+    assert!(header.contains("#define BOUNDS_WORDS_SIZE (BOUNDS_MOST_WORDS + 1) "));
+    assert_eq!(WORDS_SIZE, MOST_WORDS + 1);
     let (_, rest) = header.split_once("/* By the caller. */").expect("the first group");
     let (caller, rest) = rest.split_once("/* By whoever wrote the words. */").expect("the second");
     let (words, rest) = rest.split_once("/* By whoever drew the model. */").expect("the third");

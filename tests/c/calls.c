@@ -118,16 +118,15 @@ static void check(const model *m)
 
 /* ---- What no file has */
 
+/* Model A, cut or with zeros behind it so that it has so many words. */
 static void set(model *m, const char *name, uint64_t budget, size_t words, const char *expected)
 {
     static const uint32_t model_a[] = { 0x11002001, 0x2000000A, 0x30000000, 0x41801000, 0x50001002, 0x60400001, 0xF0000000 };
     snprintf(m->name, sizeof m->name, "%s", name);
     snprintf(m->expected, sizeof m->expected, "%s", expected);
     m->budget = budget;
+    set_words(m, model_a, sizeof model_a / sizeof model_a[0]);
     m->length = 4 * words;
-    memset(m->bytes, 0, sizeof m->bytes);
-    for (size_t i = 0; i < sizeof model_a; i++)
-        m->bytes[i] = (uint8_t)(model_a[i / 4] >> (8 * (i % 4)));
 }
 
 static const char REPORT_A[] = "lower 9.99500000E-4\nupper 1.00000000E-3\ncut 0\ndeaths 1\ncuts 0\nsteps 1\nexact 11\n";
@@ -147,14 +146,41 @@ static void check_edges(void)
     check(&m);
     set(&m, "the greatest budget", UINT64_MAX, 7, "refused 2 at 0\n");
     check(&m);
-    set(&m, "16,005 words", BOUNDS_MOST_BUDGET, BOUNDS_MOST_WORDS, "refused 3 at 7\n");
+    set(&m, "as many words as a model may have", BOUNDS_MOST_BUDGET, BOUNDS_MOST_WORDS, "refused 3 at 7\n");
     check(&m);
-    set(&m, "16,006 words", BOUNDS_MOST_BUDGET, BOUNDS_MOST_WORDS + 1, "refused 1 at 0\n");
+    set(&m, "one word more", BOUNDS_MOST_BUDGET, BOUNDS_MOST_WORDS + 1, "refused 1 at 0\n");
     check(&m);
     static uint8_t much[2 * MOST_BYTES];
     static uint32_t words[BOUNDS_WORDS_SIZE];
     if (bounds_words(much, sizeof much, words) != BOUNDS_WORDS_SIZE)
         fail("the number of words", "more bytes than any model");
+}
+
+/* States that the generator pruned: cases 03-000-named, 03-007, 03-008, 03-010, 03-017 and 03-020 of the answers of other hands. */
+static void check_named(void)
+{
+    static const uint32_t rest[] = { 0x50001002, 0x60400001, 0x50001003, 0x60400001, 0x50002004, 0x60400001, 0x50002005, 0x60400001, 0xF0000000 };
+    static const struct {
+        uint32_t head, first, second;
+        const char *expected;
+    } cases[] = {
+        { 0x11005001, 0xC0000003, 0xC0000005, "lower 4.99333333E-7\nupper 1.00100000E-3\ncut 1.00050000E-3\ndeaths 1\ncuts 2\nsteps 4\nexact 01\n" },
+        { 0x11005001, 0xC0000000, 0xC0000005, "refused 6 at 4\n" },
+        { 0x11005001, 0xC0000003, 0xC0000006, "refused 6 at 5\n" },
+        { 0x11005001, 0xC0000003, 0xC0000002, "refused 15 at 5\n" },
+        { 0x11005001, 0xC0000002, 0xC0000003, "refused 16 at 2\n" },
+        { 0x11005003, 0xC0000003, 0xC0000005, "refused 11 at 3\n" },
+    };
+    static model m;
+    for (size_t i = 0; i < sizeof cases / sizeof cases[0]; i++) {
+        uint32_t words[6 + sizeof rest / sizeof rest[0]] = { cases[i].head, 0x2000000A, 0x30000000, 0x41801000, cases[i].first, cases[i].second };
+        memcpy(words + 6, rest, sizeof rest);
+        set_words(&m, words, sizeof words / sizeof words[0]);
+        snprintf(m.name, sizeof m.name, "named states, case %zu", i);
+        snprintf(m.expected, sizeof m.expected, "%s", cases[i].expected);
+        m.budget = BOUNDS_MOST_BUDGET;
+        check(&m);
+    }
 }
 
 /* ---- What is inline */
@@ -165,7 +191,7 @@ static void check_sentences(void)
     const char *unknown = bounds_sentence(12);
     char text[BOUNDS_SENTENCE_SIZE + GUARD];
     for (uint64_t refusal = 0; refusal <= 64; refusal++) {
-        int known = (refusal >= 1 && refusal <= 11) || refusal == 13 || refusal == 14;
+        int known = (refusal >= 1 && refusal <= 11) || (refusal >= 13 && refusal <= 16);
         const char *sentence = bounds_sentence(refusal);
         if ((*sentence == '\0') != (refusal == 0) || (strcmp(sentence, unknown) == 0) != (refusal != 0 && !known))
             fail("a sentence too many or too few", "bounds_sentence");
@@ -177,6 +203,10 @@ static void check_sentences(void)
     if (strcmp(bounds_sentence_at(11, 17, text), "The start state 17 has no exits.") != 0)
         fail("a sentence with its place", "bounds_sentence_at");
     if (strcmp(bounds_sentence_at(14, 3, text), "Fewer rows were lent than the 3 that the model needs.") != 0)
+        fail("a sentence with its place", "bounds_sentence_at");
+    if (strcmp(bounds_sentence_at(15, 5, text), "The state named by word 5 is not greater than the one named before it.") != 0)
+        fail("a sentence with its place", "bounds_sentence_at");
+    if (strcmp(bounds_sentence_at(16, 2, text), "State 2 is named as the generator's and has exits.") != 0)
         fail("a sentence with its place", "bounds_sentence_at");
     if (strcmp(bounds_sentence_at(11, 0, text), "The start state 0 has no exits.") != 0)
         fail("a sentence with its place", "bounds_sentence_at");
@@ -282,6 +312,7 @@ int main(int count, char **arguments)
     check_marks();
     check_order();
     check_edges();
+    check_named();
     check_threads();
     for (int i = 2; i < count; i++)
         models += each_model(arguments[i], check);

@@ -28,6 +28,15 @@ static void fail(const char *what, const char *of)
     exit(1);
 }
 
+/* The bytes of so many words, and zeros behind them. */
+static inline void set_words(model *m, const uint32_t *words, size_t count)
+{
+    memset(m->bytes, 0, sizeof m->bytes);
+    m->length = 4 * count;
+    for (size_t i = 0; i < m->length; i++)
+        m->bytes[i] = (uint8_t)(words[i / 4] >> (8 * (i % 4)));
+}
+
 static uint8_t nibble(char c)
 {
     return (uint8_t)(c <= '9' ? c - '0' : (c | 32) - 'a' + 10);

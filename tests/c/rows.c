@@ -140,9 +140,8 @@ static void set(model *m, const char *name, uint64_t budget, size_t length, long
     snprintf(m->expected, sizeof m->expected, "%s", expected);
     m->budget = budget;
     m->rows = lent;
+    set_words(m, two, sizeof two / sizeof two[0]);
     m->length = 4 * length;
-    for (size_t i = 0; i < sizeof two; i++)
-        m->bytes[i] = (uint8_t)(two[i / 4] >> (8 * (i % 4)));
 }
 
 static void check_edges(void)
@@ -172,10 +171,37 @@ static void check_edges(void)
     check(&m);
 }
 
+/* States 3 and 5 are the generator's, and have no row: cases 03-000-named, 03-001-rows-short and 03-027-13-zeros of the answers of other hands. */
+static void check_named(void)
+{
+    static const uint32_t named[] = { 0x11005001, 0x2000000A, 0x30000000, 0x41801000, 0xC0000003, 0xC0000005, 0x50001002, 0x60400001,
+                                      0x50001003, 0x60400001, 0x50002004, 0x60400001, 0x50002005, 0x60400001, 0xF0000000 };
+    static const struct {
+        uint64_t budget;
+        long lent;
+        const char *expected;
+    } cases[] = {
+        { BOUNDS_MOST_BUDGET, 1000,
+          "lower 4.99333333E-7\nupper 1.00100000E-3\ncut 1.00050000E-3\ndeaths 1\ncuts 2\nsteps 4\nexact 01\nrow 4 4.99333333E-7 5.00000000E-7\n" },
+        { BOUNDS_MOST_BUDGET, 0, "refused 14 at 1\n" },
+        { 2, 3, "refused 13 at 0\nrow 4 0 0\n" },
+    };
+    static model m;
+    for (size_t i = 0; i < sizeof cases / sizeof cases[0]; i++) {
+        set_words(&m, named, sizeof named / sizeof named[0]);
+        snprintf(m.name, sizeof m.name, "named states, case %zu", i);
+        snprintf(m.expected, sizeof m.expected, "%s", cases[i].expected);
+        m.budget = cases[i].budget;
+        m.rows = cases[i].lent;
+        check(&m);
+    }
+}
+
 int main(int arguments, char **files)
 {
     long models = 0;
     check_edges();
+    check_named();
     for (int i = 1; i < arguments; i++)
         models += each_model(files[i], check);
     printf("rows: %ld models agree, with rows enough and too few, and nothing else is changed\n", models);

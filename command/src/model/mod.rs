@@ -1,7 +1,7 @@
 //! A model in readable lines, turned into the words of document 01 and back.
 //!
-//! The command writes what the lines say and judges no model: a transition from a state to itself, or probabilities that don't sum to 1, go into
-//! words as they stand, and the library refuses them. What it refuses is what words cannot hold: a quantity of more than six digits or of too
+//! The command writes what the lines say and judges no model: a transition from a state to itself, probabilities that don't sum to 1, or a pruned state
+//! that has exits, go into words as they stand, and the library refuses them. What it refuses is what words cannot hold: a quantity of more than six digits or of too
 //! great a scale, which it never rounds, and a number that its field has no room for or document 01 no use for.
 //!
 //! - [`quantity`]: decimal quantities
@@ -37,6 +37,8 @@ pub mod kind {
     pub const MEAN: u32 = 8;
     pub const DEVIATION: u32 = 9;
     pub const PROBABILITY: u32 = 10;
+    /// Names a state that the generator of the model pruned.
+    pub const PRUNED_STATE: u32 = 12;
     pub const END: u32 = 15;
 }
 

@@ -1,16 +1,19 @@
 //! Lines to words.
 //!
-//! A line holds a name and its values, apart by spaces; what follows a `#` is a comment. Each of `states`, `start`, `time`, `prune`, `steps` and
-//! `entries` stands once, in any order, before the transitions; `edition` may stand there too. Transitions go into words in the order of their
-//! lines. A line ends in LF or CR LF. Any other break is an error, as is a control character but a tab: behind it a comment would go on, over what
-//! looks like the next line.
+//! A line holds a name and its values, apart by spaces; what follows a `#` is a comment. First come the lines of the head: each of `states`, `start`,
+//! `time`, `prune`, `steps` and `entries` stands once, in any order; `edition` may stand among them too. Then come the states that the generator pruned,
+//! one `pruned` line each, if there are any, and then the transitions. Both go into words in the order of their lines. A line ends in LF or CR LF. Any
+//! other break is an error, as is a control character but a tab: behind it a comment would go on, over what looks like the next line.
 
 use super::quantity::Quantity;
 use super::{kind, Fault, MOST_ENTRIES, MOST_STATES, MOST_STEPS};
 use crate::echo::shown;
 
-/// The names of lines before the transitions.
+/// The names of lines of the head.
 const HEAD_NAMES: [&str; 7] = ["states", "start", "time", "prune", "steps", "entries", "edition"];
+
+/// The name of a line that names a state which the generator pruned.
+const PRUNED: &str = "pruned";
 
 /// The words of a model, and for each word the line that it comes from (the head's: that of the edition, or else of the states; the end's: the last).
 #[derive(Clone, Debug, PartialEq, Eq)]
@@ -48,7 +51,9 @@ struct Whole {
 
 /// Whether readable lines may begin with this word.
 pub fn begins(first: &str) -> bool {
-    first.starts_with('#') || matches!(first, "slow" | "fast") || HEAD_NAMES.contains(&first)
+    first.starts_with('#')
+        || matches!(first, PRUNED | "slow" | "fast")
+        || HEAD_NAMES.contains(&first)
 }
 
 /// The first character that no line has, as a fault of its line.
@@ -68,35 +73,71 @@ pub fn words_of(text: &str) -> Result<Written, Fault> {
     if let Some(fault) = stray(text) {
         return Err(fault);
     }
-    let mut head = Head::default();
-    let mut whole = None;
+    let mut part = Part::Head(Head::default());
     let mut out = Written { words: Vec::new(), lines: Vec::new(), start: 0 };
     let mut last = 1;
     for (number, line) in text.lines().enumerate() {
         last = number + 1;
         let line = line.split('#').next().unwrap_or("");
         let parts: Vec<&str> = line.split_whitespace().collect();
-        let Some((&name, values)) = parts.split_first() else {
-            continue;
-        };
-        if name != "slow" && name != "fast" {
-            if whole.is_some() && HEAD_NAMES.contains(&name) {
-                return Err(Fault::new(last, format!("{name} stands after the first transition")));
-            }
-            head.take(name, values, last)?;
-            continue;
+        if let Some((&name, values)) = parts.split_first() {
+            part = part.take(name, values, last, &mut out)?;
         }
-        if whole.is_none() {
-            whole = Some(head.whole(last)?.put(&mut out));
-        }
-        let states = whole.unwrap_or_default();
-        transition(name, values, states, last, &mut out)?;
     }
-    if whole.is_none() {
+    if let Part::Head(head) = part {
         head.whole(last)?.put(&mut out);
     }
     out.put(kind::END << 28, last);
     Ok(out)
+}
+
+/// The part of a model that the lines read so far have come to. Behind the head, the number of states is known.
+enum Part {
+    Head(Head),
+    Pruned { states: u32 },
+    Transitions { states: u32 },
+}
+
+impl Part {
+    /// Takes the next line, and hands back the part that it belongs to.
+    fn take(
+        self,
+        name: &str,
+        values: &[&str],
+        line: usize,
+        out: &mut Written,
+    ) -> Result<Part, Fault> {
+        match (name, self) {
+            ("slow" | "fast", part) => {
+                let states = part.states(line, out)?;
+                transition(name, values, states, line, out)?;
+                Ok(Part::Transitions { states })
+            }
+            (PRUNED, part @ (Part::Head(_) | Part::Pruned { .. })) => {
+                let states = part.states(line, out)?;
+                pruned(values, states, line, out)?;
+                Ok(Part::Pruned { states })
+            }
+            (_, Part::Head(mut head)) => {
+                head.take(name, values, line)?;
+                Ok(Part::Head(head))
+            }
+            (_, part) if name == PRUNED || HEAD_NAMES.contains(&name) => {
+                let first =
+                    if matches!(part, Part::Pruned { .. }) { "pruned state" } else { "transition" };
+                Err(Fault::new(line, format!("{name} stands after the first {first}")))
+            }
+            _ => Err(no_name(name, line)),
+        }
+    }
+
+    /// The number of states. Where the head ends here, its words are put.
+    fn states(self, line: usize, out: &mut Written) -> Result<u32, Fault> {
+        match self {
+            Part::Head(head) => Ok(head.whole(line)?.put(out)),
+            Part::Pruned { states } | Part::Transitions { states } => Ok(states),
+        }
+    }
 }
 
 impl Written {
@@ -177,7 +218,10 @@ impl Head {
 fn no_name(name: &str, line: usize) -> Fault {
     let names = HEAD_NAMES.join(", ");
     let name = shown(name);
-    Fault::new(line, format!("{name} is no name of a line: expected {names}, slow or fast"))
+    Fault::new(
+        line,
+        format!("{name} is no name of a line: expected {names}, {PRUNED}, slow or fast"),
+    )
 }
 
 fn once<T>(place: &mut Option<Given<T>>, name: &str, value: T, line: usize) -> Result<(), Fault> {
@@ -190,8 +234,20 @@ fn once<T>(place: &mut Option<Given<T>>, name: &str, value: T, line: usize) -> R
 
 fn needed<T: Copy>(place: Option<Given<T>>, name: &str, line: usize) -> Result<Given<T>, Fault> {
     place.ok_or_else(|| {
-        Fault::new(line, format!("{name} is missing: it stands before the transitions"))
+        Fault::new(
+            line,
+            format!("{name} is missing: it stands before pruned states and transitions"),
+        )
     })
+}
+
+fn pruned(values: &[&str], states: u32, line: usize, out: &mut Written) -> Result<(), Fault> {
+    let [state] = values else {
+        return Err(Fault::new(line, format!("a pruned state is written: {PRUNED} STATE")));
+    };
+    let state = whole_number(state, 1, states, line)?;
+    out.put(kind::PRUNED_STATE << 28 | state, line);
+    Ok(())
 }
 
 fn transition(

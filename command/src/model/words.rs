@@ -9,6 +9,9 @@ use std::fmt::Write;
 pub fn text_of(words: &[u32]) -> Result<String, Fault> {
     let mut reader = Reader { words, at: 0 };
     let mut text = reader.head()?;
+    while words.get(reader.at).is_some_and(|word| word >> 28 == kind::PRUNED_STATE) {
+        text.push_str(&reader.pruned()?);
+    }
     loop {
         let at = reader.at;
         let word = reader.next()?;
@@ -102,6 +105,22 @@ impl Reader<'_> {
         Ok(text)
     }
 
+    /// The line of a state that the generator pruned.
+    fn pruned(&mut self) -> Result<String, Fault> {
+        let at = self.at;
+        let word = self.of_kind(kind::PRUNED_STATE)?;
+        let state = word & 0xFFF;
+        if word >> 12 & 0xFFFF != 0 || !self.is_state(state) {
+            return Err(wrong_state(word, at));
+        }
+        Ok(format!("pruned {state}\n"))
+    }
+
+    /// Whether a number is that of a state of the model, whose head has been read.
+    fn is_state(&self, number: u32) -> bool {
+        (1..=self.words[0] >> 12 & 0xFFF).contains(&number)
+    }
+
     fn transition(
         &mut self,
         name: &str,
@@ -110,12 +129,8 @@ impl Reader<'_> {
         kinds: &[u32],
     ) -> Result<String, Fault> {
         let (from, to) = (word >> 12 & 0xFFF, word & 0xFFF);
-        let states = self.words[0] >> 12 & 0xFFF;
-        if word >> 24 & 15 != 0 || !(1..=states).contains(&from) || !(1..=states).contains(&to) {
-            return Err(Fault::new(
-                at,
-                format!("{word:08X} has a state out of range or a bit set that must be zero"),
-            ));
+        if word >> 24 & 15 != 0 || !self.is_state(from) || !self.is_state(to) {
+            return Err(wrong_state(word, at));
         }
         let mut line = format!("{name} {from} {to}");
         for &of in kinds {
@@ -124,6 +139,10 @@ impl Reader<'_> {
         line.push('\n');
         Ok(line)
     }
+}
+
+fn wrong_state(word: u32, at: usize) -> Fault {
+    Fault::new(at, format!("{word:08X} has a state out of range or a bit set that must be zero"))
 }
 
 /// Four bytes a word, least significant first.

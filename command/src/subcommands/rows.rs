@@ -13,9 +13,10 @@ pub const SUBCOMMAND: Subcommand = Subcommand {
     summary: "the ways to fail, the one that dominates first",
     help: "usage: bounds rows FILE [--budget N] [--json] [--as lines|digits|bytes]
 
-Prints a row for each state without exits that is the target of a transition: the lower and the upper figure of the paths that end in that state, and
-its share of the report's upper. The greatest upper stands first, equal ones in order of state number. Behind them stand `cut`, the paths that were
-cut and are in no row, and `all`, the report's own figures. A model that is refused is answered as by `bounds report`.
+Prints a row for each state without exits that is the target of a transition and that no line `pruned` names: the lower and the upper figure of the
+paths that end in that state, and its share of the report's upper. The greatest upper stands first, equal ones in order of state number. Behind them
+stand `cut`, the paths that were cut and are in no row, those into pruned states included, and `all`, the report's own figures. A model that is refused
+is answered as by `bounds report`.
 
 A share is the row's upper divided by the report's, in per cent with two places, rounded to the nearest, halves up; it is - where the row's upper is 0,
 since no path ends there. The figures of the rows are rounded each by itself, and need not add up to those of `all`.

@@ -113,6 +113,34 @@ mod tests {
         assert_eq!(answered(&with("0").replace("1000000", "0")), "refused 2 at 0");
     }
 
+    /// Cases of other hands: 03-000-named, 03-001-rows-short, 03-010-falling and 03-017-has-exits.
+    #[test]
+    fn named_states() {
+        let named = |budget: &str, first: &str, second: &str| {
+            format!("report {budget} words=11005001,2000000A,30000000,41801000,{first},{second},50001002,60400001,50001003,60400001,50002004,60400001,50002005,60400001,F0000000")
+        };
+        let report = "lower 4.99333333E-7\nupper 1.00100000E-3\ncut 1.00050000E-3\ndeaths 1\ncuts 2\nsteps 4\nexact 01";
+        for (budget, first, second, expected) in [
+            ("budget=1000000", "C0000003", "C0000005", report.into()),
+            (
+                "budget=1000000 rows=1",
+                "C0000003",
+                "C0000005",
+                format!("{report}\nrow 4 4.99333333E-7 5.00000000E-7"),
+            ),
+            ("budget=1000000 rows=0", "C0000003", "C0000005", "refused 14 at 1".into()),
+            ("budget=2 rows=3", "C0000003", "C0000005", "refused 13 at 0\nrow 4 0 0".into()),
+            ("budget=1000000", "C0000003", "C0000002", "refused 15 at 5".into()),
+            ("budget=1000000", "C0000002", "C0000003", "refused 16 at 2".into()),
+        ] {
+            assert_eq!(
+                answered(&named(budget, first, second)),
+                expected,
+                "{budget} {first} {second}"
+            );
+        }
+    }
+
     #[test]
     fn what_is_no_case() {
         for line in [

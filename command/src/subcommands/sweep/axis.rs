@@ -171,6 +171,17 @@ mod tests {
         Ok(())
     }
 
+    /// Words that name pruned states are no transitions.
+    #[test]
+    fn rates_behind_pruned_states() -> Result<(), Failure> {
+        let words = [&WORDS[..4], &[0xC0000003, 0xC0000005], &WORDS[4..]].concat();
+        let points = Axis::of("rate", "1=5e-4")?.points(&words)?;
+        let differ: Vec<usize> =
+            (0..words.len()).filter(|&i| points[0].words[i] != words[i]).collect();
+        assert_eq!((differ, points[0].words[9]), (vec![9], 0x60400005));
+        Ok(())
+    }
+
     #[test]
     fn what_is_no_axis() {
         for (name, value) in [
