@@ -16,7 +16,7 @@ struct CutUppers(Vec<Figure>);
 
 impl Watcher for CutUppers {
     fn ended(&mut self, end: End, _path: &[usize], upper: MarkedFigure) {
-        if end == End::Cut {
+        if end != End::Death {
             self.0.push(upper.value);
         }
     }
