@@ -234,7 +234,7 @@ fn check_transition(model: &Model, fast: bool, from: usize, to: usize) -> Result
 fn check_named(model: &Model) -> Result<(), Refusal> {
     let mut with_exits = model.named.iter().filter(|&&state| !model.exits[state].is_empty());
     let found =
-        if planted(Fault::HighestWithExits) { with_exits.last() } else { with_exits.next() };
+        if planted(Fault::HighestWithExits) { with_exits.next_back() } else { with_exits.next() };
     found.map_or(Ok(()), |&state| Err(Refusal::new(16, state)))
 }
 
