@@ -11,7 +11,7 @@ pub struct Counts {
     pub cuts: u64,
     pub steps: u64,
     /// How many of the cuts were in a state of the generator's; it isn't printed.
-    pub generators: u64,
+    pub in_generators_states: u64,
 }
 
 #[derive(Clone, Copy, Debug, PartialEq, Eq)]

@@ -117,7 +117,7 @@ impl<'a> Totals<'a> {
     }
 
     /// A path that ends in a state of the generator's counts as any cut path does.
-    fn add_generators(&mut self, path: &[usize], upper: MarkedFigure) {
+    fn add_generators_state(&mut self, path: &[usize], upper: MarkedFigure) {
         let kept_before = self.cut_upper.kept;
         if !planted(Fault::NamedLeftOut) {
             self.add_cut(upper);
@@ -135,7 +135,7 @@ impl Watcher for Totals<'_> {
         match end {
             End::Death => self.add_death(path, upper),
             End::Cut => self.add_cut(upper),
-            End::Generators => self.add_generators(path, upper),
+            End::GeneratorsState => self.add_generators_state(path, upper),
         }
         if planted(Fault::TotalsOfNineDigits) {
             self.lower = self.lower.narrowed(Down).widened(); // planted

@@ -15,7 +15,7 @@ pub enum End {
     /// A cut by one of the limits.
     Cut,
     /// A cut in one of the generator's states.
-    Generators,
+    GeneratorsState,
 }
 
 /// Told of every ended path, in the order of the walk: its transitions by number, and its U with
@@ -85,7 +85,7 @@ impl<'a> Walker<'a> {
     fn end_at(&self, state: usize, upper: Figure) -> Option<End> {
         let dead = self.model.exits[state].is_empty();
         if self.model.is_named(state) && !planted(Fault::NamedDies) {
-            return Some(End::Generators);
+            return Some(End::GeneratorsState);
         }
         if dead && !planted(Fault::CutBeforeDeath) {
             return Some(End::Death);
@@ -110,9 +110,9 @@ impl<'a> Walker<'a> {
         match end {
             End::Death => self.counts.deaths += 1,
             End::Cut => self.counts.cuts += 1,
-            End::Generators => {
+            End::GeneratorsState => {
                 self.counts.cuts += 1;
-                self.counts.generators += 1;
+                self.counts.in_generators_states += 1;
             }
         }
         self.watcher.ended(end, &self.path, upper);

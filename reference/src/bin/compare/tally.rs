@@ -44,7 +44,7 @@ impl Tally {
             Answer::Report(report) => {
                 self.steps += report.counts.steps;
                 self.lower_above_zero += u64::from(!report.lower.is_zero());
-                let cut = report.counts.generators;
+                let cut = report.counts.in_generators_states;
                 self.generators[0] += cut;
                 self.generators[1] += u64::from(cut > 0);
                 let [lower, upper] = answer.exact().map(usize::from);
