@@ -10,6 +10,8 @@ pub struct Counts {
     pub deaths: u64,
     pub cuts: u64,
     pub steps: u64,
+    /// How many of the cuts were in a state of the generator's; it isn't printed.
+    pub in_generators_states: u64,
 }
 
 #[derive(Clone, Copy, Debug, PartialEq, Eq)]

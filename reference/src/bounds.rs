@@ -111,13 +111,31 @@ impl<'a> Totals<'a> {
             totals.add(lower, upper);
         }
     }
+
+    fn add_cut(&mut self, upper: MarkedFigure) {
+        self.cut_upper = self.cut_upper.plus(upper.widened(), Up);
+    }
+
+    /// A path that ends in a state of the generator's counts as any cut path does.
+    fn add_generators_state(&mut self, path: &[usize], upper: MarkedFigure) {
+        let kept_before = self.cut_upper.kept;
+        if !planted(Fault::NamedLeftOut) {
+            self.add_cut(upper);
+        }
+        self.cut_upper.kept |= kept_before && planted(Fault::NamedUncounted);
+        if planted(Fault::LowerForNamed) {
+            let lower = lower_of(path, self.figures).widened();
+            self.lower = self.lower.plus(lower, Down); // planted
+        }
+    }
 }
 
 impl Watcher for Totals<'_> {
     fn ended(&mut self, end: End, path: &[usize], upper: MarkedFigure) {
         match end {
             End::Death => self.add_death(path, upper),
-            End::Cut => self.cut_upper = self.cut_upper.plus(upper.widened(), Up),
+            End::Cut => self.add_cut(upper),
+            End::GeneratorsState => self.add_generators_state(path, upper),
         }
         if planted(Fault::TotalsOfNineDigits) {
             self.lower = self.lower.narrowed(Down).widened(); // planted

@@ -60,10 +60,22 @@ pub enum Fault {
     LastRoundingUncounted,
     CutsUncounted,
     CutFigureCounted,
+    NamedDies,
+    NamedLeftOut,
+    NamedUncounted,
+    LowerForNamed,
+    RowForNamed,
+    NamedTwice,
+    NumberBeforeOrder,
+    NamedTooMany,
+    NamedExitsAfterStart,
+    HighestWithExits,
+    NamedAfterTransition,
+    BitTwelveIgnored,
 }
 
 /// Every fault with its name and what it does.
-pub const ALL: [(Fault, &str, &str); 54] = [
+pub const ALL: [(Fault, &str, &str); 66] = [
     (Fault::UpperRoundsDown, "upper-rounds-down", "U × rate rounds down in class 1"),
     (Fault::EscapeRoundsDown, "escape-rounds-down", "the sum E rounds down"),
     (Fault::LowerRoundsUp, "lower-rounds-up", "the last product of a lower rounds up"),
@@ -100,7 +112,7 @@ pub const ALL: [(Fault, &str, &str); 54] = [
     (Fault::SumsReversed, "sums-reversed", "E, h and H are summed from the last exit"),
     (Fault::BitAfterStates, "bit-after-states", "refusal 4 of a transition comes after 6 to 9"),
     (Fault::TransitionTooMany, "transition-too-many", "a 4,001st transition is let through"),
-    (Fault::WordTooFew, "word-too-few", "16,005 words are refused as too many"),
+    (Fault::WordTooFew, "word-too-few", "16,105 words are refused as too many"),
     (Fault::RowForNoTarget, "row-for-no-target", "a state to which nothing leads has a row"),
     (Fault::UnreachedRowsLeftOut, "unreached-left-out", "no row for a state never reached"),
     (Fault::RowsInTableOrder, "rows-in-table-order", "rows in the order of the transitions"),
@@ -126,6 +138,18 @@ pub const ALL: [(Fault, &str, &str); 54] = [
     (Fault::LastRoundingUncounted, "last-uncounted", "the lower's last rounding doesn't count"),
     (Fault::CutsUncounted, "cuts-uncounted", "the upper's mark leaves the cut paths out"),
     (Fault::CutFigureCounted, "cut-figure-counted", "the upper rests on the cut figure's rounding"),
+    (Fault::NamedDies, "named-dies", "a path that ends in a generator's state is a death"),
+    (Fault::NamedLeftOut, "named-left-out", "its upper is left out of the cut total"),
+    (Fault::NamedUncounted, "named-uncounted", "the upper's mark leaves its upper out"),
+    (Fault::LowerForNamed, "lower-for-named", "it has a lower too"),
+    (Fault::RowForNamed, "row-for-named", "a generator's state has a row"),
+    (Fault::NamedTwice, "named-twice", "a state may be named twice in a row"),
+    (Fault::NumberBeforeOrder, "number-before-order", "9 comes before 15"),
+    (Fault::NamedTooMany, "named-too-many", "a 101st named state is let through"),
+    (Fault::NamedExitsAfterStart, "exits-after-start", "16 comes after 11"),
+    (Fault::HighestWithExits, "highest-with-exits", "the place of 16 is the highest such state"),
+    (Fault::NamedAfterTransition, "named-after", "states may be named after a transition"),
+    (Fault::BitTwelveIgnored, "bit-12-ignored", "bit 12 of a word that names a state may be set"),
 ];
 
 thread_local! {

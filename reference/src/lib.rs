@@ -4,7 +4,7 @@
 //! library.
 //! Names in quotes or single capitals (U, E, M, h, H, T, L, V) are those of document 01.
 //!
-//! - [`words`]: words to a model, refusals 1 to 11
+//! - [`words`]: words to a model, refusals 1 to 11, 15 and 16
 //! - [`figure`]: nine and eighteen digit figures with their two roundings
 //! - [`marked`]: the same with a mark that nothing was lost
 //! - [`steps`]: the figures that belong to a state or to a transition (E, h, H, grains, factors)

@@ -42,6 +42,8 @@ pub struct Model {
     pub step_limit: u32,
     /// V
     pub entry_limit: u32,
+    /// The generator's states, as the words name them: in rising order.
+    pub named: Vec<usize>,
     /// In table order.
     pub transitions: Vec<Transition>,
     /// For each state the numbers of its transitions, in table order; entry 0 is unused.
@@ -49,13 +51,18 @@ pub struct Model {
 }
 
 impl Model {
+    /// Whether a state is one of the generator's.
+    pub fn is_named(&self, state: usize) -> bool {
+        self.named.binary_search(&state).is_ok()
+    }
+
     /// Whether a state has a fast exit.
     pub fn has_fast_exit(&self, state: usize) -> bool {
         self.exits[state].iter().any(|&exit| self.transitions[exit].is_fast())
     }
 }
 
-/// Why a model is turned away: document 01's number, and the place.
+/// Why a model is turned away: the documents' number, and the place.
 #[derive(Clone, Copy, Debug, PartialEq, Eq)]
 pub struct Refusal {
     pub number: u32,

@@ -1,4 +1,5 @@
-//! Document 02, Item 1: a row for each state that has no exits and is the target of a transition.
+//! Document 02, Item 1: a row for each state that has no exits and is the target of a transition;
+//! by Item 3 none for a state of the generator's.
 
 use crate::bounds::Totals;
 use crate::faults::{planted, Fault};
@@ -33,7 +34,11 @@ pub fn states_of(model: &Model) -> Vec<usize> {
     if planted(Fault::UnreachedRowsLeftOut) {
         target = reached(model);
     }
-    (1..=model.states).filter(|&state| target[state] && model.exits[state].is_empty()).collect()
+    let fails = |&state: &usize| {
+        let named = model.is_named(state) && !planted(Fault::RowForNamed);
+        target[state] && model.exits[state].is_empty() && !named
+    };
+    (1..=model.states).filter(fails).collect()
 }
 
 /// A planted fault: the states to which transitions lead from the start.

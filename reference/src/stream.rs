@@ -6,8 +6,8 @@ use crate::figure::Figure;
 use crate::{assess_rows, Answer, Row};
 use std::io::{self, ErrorKind, Read, Write};
 
-/// The most words and the most rows that a record may hold; a model of more than 16,005 words is
-/// refused anyway.
+/// The most words and the most rows that a record may hold; a model of more words than
+/// [`MOST_WORDS`](crate::words::MOST_WORDS) is refused anyway.
 const LONGEST: u32 = 1 << 24;
 
 pub struct Record {

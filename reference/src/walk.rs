@@ -12,7 +12,10 @@ use crate::steps::{Class, Figures};
 #[derive(Clone, Copy, Debug, PartialEq, Eq)]
 pub enum End {
     Death,
+    /// A cut by one of the limits.
     Cut,
+    /// A cut in one of the generator's states.
+    GeneratorsState,
 }
 
 /// Told of every ended path, in the order of the walk: its transitions by number, and its U with
@@ -81,6 +84,9 @@ impl<'a> Walker<'a> {
     /// How the path ends at the state it has just reached, if it does.
     fn end_at(&self, state: usize, upper: Figure) -> Option<End> {
         let dead = self.model.exits[state].is_empty();
+        if self.model.is_named(state) && !planted(Fault::NamedDies) {
+            return Some(End::GeneratorsState);
+        }
         if dead && !planted(Fault::CutBeforeDeath) {
             return Some(End::Death);
         }
@@ -104,6 +110,10 @@ impl<'a> Walker<'a> {
         match end {
             End::Death => self.counts.deaths += 1,
             End::Cut => self.counts.cuts += 1,
+            End::GeneratorsState => {
+                self.counts.cuts += 1;
+                self.counts.in_generators_states += 1;
+            }
         }
         self.watcher.ended(end, &self.path, upper);
     }

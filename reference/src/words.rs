@@ -1,10 +1,13 @@
-//! Words to a model, with refusals 1 to 11 in document 01's order.
+//! Words to a model, with refusals 1 to 11, 15 and 16 in the documents' order.
 
 use crate::faults::{planted, Fault};
 use crate::model::{Law, Model, Quantity, Refusal, Transition};
 use crate::MOST_STEPS;
 
-const MOST_WORDS: usize = 16_005;
+/// Of 4,000 fast transitions and 100 named states.
+pub const MOST_WORDS: usize = 16_105;
+/// How many states may be named as the generator's.
+pub const MOST_NAMED: usize = 100;
 const MOST_TRANSITIONS: usize = 4_000;
 const MOST_EXITS: usize = 16;
 const MOST_STATES: u32 = 1_000;
@@ -26,6 +29,7 @@ const FAST: u32 = 7;
 const MEAN: u32 = 8;
 const DEVIATION: u32 = 9;
 const PROBABILITY: u32 = 10;
+const NAMED: u32 = 12;
 const END: u32 = 15;
 
 /// The model that the words describe, if neither they nor the budget are to be turned away.
@@ -38,14 +42,24 @@ pub fn read(words: &[u32], budget: u64) -> Result<Model, Refusal> {
     }
     let mut reader = Reader { words, place: 0 };
     let mut model = read_preamble(&mut reader)?;
-    while read_transition(&mut reader, &mut model)? {}
+    read_named(&mut reader, &mut model)?;
+    while read_transition(&mut reader, &mut model)? {
+        if planted(Fault::NamedAfterTransition) {
+            read_named(&mut reader, &mut model)?;
+        }
+    }
     if reader.place < words.len() {
         return Err(Refusal::new(3, reader.place));
     }
     check_probabilities(&model)?;
+    let named = check_named(&model);
+    if !planted(Fault::NamedExitsAfterStart) {
+        named?;
+    }
     if model.exits[model.start].is_empty() {
         return Err(Refusal::new(11, model.start));
     }
+    named?;
     Ok(model)
 }
 
@@ -78,6 +92,13 @@ impl Reader<'_> {
         }
     }
 
+    /// The next word and its place, if it is of the kind.
+    fn next_if(&mut self, wanted: u32) -> Option<(u32, usize)> {
+        let word = self.words.get(self.place).copied().filter(|&word| kind(word) == wanted)?;
+        self.place += 1;
+        Some((word, self.place - 1))
+    }
+
     /// The next word as a quantity of a kind.
     fn quantity(&mut self, wanted: u32) -> Result<Quantity, Refusal> {
         let (word, place) = self.next(&[wanted])?;
@@ -92,7 +113,7 @@ impl Reader<'_> {
     }
 }
 
-/// The four words before the transitions.
+/// The four words that every model begins with.
 fn read_preamble(reader: &mut Reader<'_>) -> Result<Model, Refusal> {
     let (head, place) = reader.next(&[HEAD])?;
     let (edition, states, start) = (bits(head, 27, 24), bits(head, 23, 12), bits(head, 11, 0));
@@ -117,9 +138,44 @@ fn read_preamble(reader: &mut Reader<'_>) -> Result<Model, Refusal> {
         prune,
         step_limit,
         entry_limit,
+        named: Vec::new(),
         transitions: Vec::new(),
         exits: vec![Vec::new(); states as usize + 1],
     })
+}
+
+/// Reads the words that name the generator's states into the model, as many as follow.
+fn read_named(reader: &mut Reader<'_>, model: &mut Model) -> Result<(), Refusal> {
+    while let Some((word, place)) = reader.next_if(NAMED) {
+        let lowest = if planted(Fault::BitTwelveIgnored) { 13 } else { 12 };
+        if bits(word, 27, lowest) != 0 {
+            return Err(Refusal::new(4, place));
+        }
+        let state = bits(word, 11, 0) as usize;
+        check_name(model, state).map_err(|number| Refusal::new(number, place))?;
+        model.named.push(state);
+    }
+    Ok(())
+}
+
+/// Refusals 6, 15 and 9 of a word that names a state, as their number.
+fn check_name(model: &Model, state: usize) -> Result<(), u32> {
+    if !(1..=model.states).contains(&state) {
+        return Err(6);
+    }
+    let most = MOST_NAMED + usize::from(planted(Fault::NamedTooMany));
+    let one_more = model.named.len() >= most;
+    if one_more && planted(Fault::NumberBeforeOrder) {
+        return Err(9);
+    }
+    let greater = |&before: &usize| state > before || state == before && planted(Fault::NamedTwice);
+    if !model.named.last().is_none_or(greater) {
+        return Err(15);
+    }
+    if one_more {
+        return Err(9);
+    }
+    Ok(())
 }
 
 /// Reads one transition into the model, or the end; says whether it was a transition.
@@ -172,6 +228,14 @@ fn check_transition(model: &Model, fast: bool, from: usize, to: usize) -> Result
         return Err(9);
     }
     Ok(())
+}
+
+/// Refusal 16: the lowest state that is named as the generator's and has exits.
+fn check_named(model: &Model) -> Result<(), Refusal> {
+    let mut with_exits = model.named.iter().filter(|&&state| !model.exits[state].is_empty());
+    let found =
+        if planted(Fault::HighestWithExits) { with_exits.next_back() } else { with_exits.next() };
+    found.map_or(Ok(()), |&state| Err(Refusal::new(16, state)))
 }
 
 /// Refusal 10: the lowest state that has fast exits whose probabilities don't sum to exactly 1.

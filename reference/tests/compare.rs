@@ -12,15 +12,16 @@ fn compare(options: &[&str]) -> Output {
 
 #[test]
 fn agrees_with_itself_and_meets_every_answer() {
-    let output = compare(&["--count", "6000", "--accuracy"]);
+    let output = compare(&["--count", "8000", "--accuracy"]);
     let text = String::from_utf8_lossy(&output.stdout);
     assert!(output.status.success(), "{text}");
     let all = text.lines().find(|line| line.starts_with("all ")).unwrap_or_default();
     let counts: Vec<u64> = all.split_whitespace().filter_map(|part| part.parse().ok()).collect();
-    assert_eq!(counts.len(), 15, "{text}");
+    assert_eq!(counts.len(), 17, "{text}");
     assert!(counts.iter().all(|&count| count > 0), "{text}");
-    assert_eq!(counts[0], 6_000);
+    assert_eq!(counts[0], 8_000);
     for line in [
+        "cut in a generator's state: ",
         "digits 00, 01, 10, 11: ",
         "exact sums by a digit of one: ",
         "rows filled: ",

@@ -44,7 +44,7 @@ fn left_over_bytes_are_one_more_word() {
 
 #[test]
 fn left_over_bytes_count_towards_the_most_words() {
-    let mut bytes = vec![0; 4 * 16_005];
+    let mut bytes = vec![0; 4 * reference::words::MOST_WORDS];
     assert_eq!(report(&bytes), "refused 3 at 0\n");
     bytes.push(0);
     assert_eq!(report(&bytes), "refused 1 at 0\n");

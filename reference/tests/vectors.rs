@@ -1,6 +1,6 @@
 //! Every model with an expected answer, in `tests/data` and in the files named by the variable
 //! VECTORS (paths separated by ':', one JSON object a line with name, words, budget and expect, and
-//! maybe rows).
+//! maybe rows, and fill: how many equal words follow, and which).
 //!
 //! A line of `tests/data`: name, budget, in `rows.txt` the number of rows lent, words (eight
 //! hexadecimal digits each; `-` at the end stands for left-over bytes; `.` for no words) and the
@@ -69,6 +69,16 @@ fn between<'a>(line: &'a str, open: &str, close: &str) -> Result<&'a str, Box<dy
     Ok(inside)
 }
 
+/// The words of a line, those that its `fill` appends included.
+fn words_of_json(inputs: &str) -> Result<String, Box<dyn Error>> {
+    let words = between(inputs, "\"words\": [", "]")?;
+    let Ok(fill) = between(inputs, "\"fill\": [", "]") else {
+        return Ok(words.to_string());
+    };
+    let (number, word) = fill.split_once(", ").ok_or("a fill that isn't a number and a word")?;
+    Ok(words.to_string() + &word.repeat(number.parse()?))
+}
+
 fn json(line: &str) -> Result<Vector, Box<dyn Error>> {
     let (inputs, _) = line.split_once("\"expect\": ").ok_or("no answer is expected")?;
     let rows = between(inputs, "\"rows\": ", ",").ok().map(str::parse).transpose()?;
@@ -84,7 +94,7 @@ fn json(line: &str) -> Result<Vector, Box<dyn Error>> {
         name: between(line, "\"name\": \"", "\"")?.to_string(),
         budget: between(line, "\"budget\": ", ",")?.parse()?,
         rows,
-        bytes: bytes_of(between(line, "\"words\": [", "]")?)?,
+        bytes: bytes_of(&words_of_json(inputs)?)?,
         expected,
     })
 }
@@ -103,9 +113,9 @@ fn check_file(path: &Path) -> Result<usize, Box<dyn Error>> {
 #[test]
 fn expected_answers() -> Result<(), Box<dyn Error>> {
     let data = Path::new(env!("CARGO_MANIFEST_DIR")).join("tests/data");
-    assert_eq!(check_file(&data.join("models.txt"))?, 710);
-    assert_eq!(check_file(&data.join("papers.txt"))?, 98);
-    assert_eq!(check_file(&data.join("rows.txt"))?, 60);
+    assert_eq!(check_file(&data.join("models.txt"))?, 1_063);
+    assert_eq!(check_file(&data.join("papers.txt"))?, 101);
+    assert_eq!(check_file(&data.join("rows.txt"))?, 119);
     if let Some(paths) = std::env::var_os("VECTORS") {
         for path in std::env::split_paths(&paths).filter(|path| *path != PathBuf::new()) {
             println!("{}: {} models agree", path.display(), check_file(&path)?);

@@ -92,7 +92,9 @@ impl<'a> Walk<'a> {
             let (to, ones) = (step.to as usize, ones + u64::from(step.class == 1));
             let upper = self.further(&step, upper, nth);
             let before = self.entered[to];
-            if model.exits[to].is_empty() {
+            if model.named[to] {
+                self.cut_off(upper);
+            } else if model.exits[to].is_empty() {
                 let lower = self.lower_of(&step, nth, ones, len, &mut shared);
                 self.lower = self.lower.total::<DOWN>(lower);
                 self.died = self.died.total::<UP>(upper);
@@ -103,8 +105,7 @@ impl<'a> Walk<'a> {
                 || len + 1 == model.steps
                 || upper.at_or_below(model.level)
             {
-                self.cut = self.cut.total::<UP>(upper);
-                self.cuts += 1;
+                self.cut_off(upper);
             } else {
                 self.entered[to] = before + 1;
                 self.path[len] = exit;
@@ -115,6 +116,11 @@ impl<'a> Walk<'a> {
             }
         }
         true
+    }
+
+    fn cut_off(&mut self, upper: Figure) {
+        self.cut = self.cut.total::<UP>(upper);
+        self.cuts += 1;
     }
 
     /// U one step further; the step is the `nth` of class 1 if it is of class 1.

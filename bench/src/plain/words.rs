@@ -1,4 +1,4 @@
-//! Words to a model: refusals 1 to 11.
+//! Words to a model: refusals 1 to 11, 15 and 16.
 
 use super::figure::{Figure, UP};
 use super::Refusal;
@@ -21,19 +21,23 @@ pub struct Model {
     pub level: Figure,
     pub steps: usize,
     pub entries: u8,
+    /// Whether a state is named as the generator's.
+    pub named: [bool; 1001],
     pub transitions: Vec<Transition>,
     /// For each state the numbers of its exits, in table order.
     pub exits: Vec<Vec<u16>>,
 }
 
 impl Model {
-    /// The states without exits to which a transition leads, in order.
+    /// The states without exits to which a transition leads, in order, but for the generator's.
     pub fn dead(&self) -> impl Iterator<Item = usize> + '_ {
         let mut target = [false; 1001];
         for transition in &self.transitions {
             target[transition.to as usize] = true;
         }
-        (1..=self.states).filter(move |&state| target[state] && self.exits[state].is_empty())
+        (1..=self.states).filter(move |&state| {
+            target[state] && self.exits[state].is_empty() && !self.named[state]
+        })
     }
 }
 
@@ -80,7 +84,7 @@ impl Quantity {
 }
 
 pub fn read(words: &[u32], budget: u64) -> Result<Model, Refusal> {
-    if words.len() > 16_005 {
+    if words.len() > 16_105 {
         return refused(1, 0);
     }
     if !(1..=1_000_000).contains(&budget) {
@@ -88,6 +92,7 @@ pub fn read(words: &[u32], budget: u64) -> Result<Model, Refusal> {
     }
     let mut reader = Reader { words, at: 0 };
     let mut model = head(&mut reader)?;
+    named(&mut reader, &mut model)?;
     let mut sums = vec![None; model.states + 1];
     transitions(&mut reader, &mut model, &mut sums)?;
     if reader.at < words.len() {
@@ -97,6 +102,11 @@ pub fn read(words: &[u32], budget: u64) -> Result<Model, Refusal> {
         sums.iter().position(|&sum| sum.is_some_and(|s: u64| s != 1_000_000_000_000))
     {
         return refused(10, state);
+    }
+    if let Some(state) =
+        (1..=model.states).find(|&state| model.named[state] && !model.exits[state].is_empty())
+    {
+        return refused(16, state);
     }
     if model.exits[model.start].is_empty() {
         return refused(11, model.start);
@@ -127,9 +137,33 @@ fn head(reader: &mut Reader) -> Result<Model, Refusal> {
         level,
         steps: steps as usize,
         entries: entries as u8,
+        named: [false; 1001],
         transitions: Vec::new(),
         exits: vec![Vec::new(); states + 1],
     })
+}
+
+/// Reads the words that name the generator's states, which rise.
+fn named(reader: &mut Reader, model: &mut Model) -> Result<(), Refusal> {
+    let (mut last, mut count) = (0, 0);
+    while let Ok(word) = reader.next(12) {
+        let (at, state) = (reader.at - 1, word as usize & 0xFFF);
+        if word >> 12 & 0xFFFF != 0 {
+            return refused(4, at);
+        }
+        if !(1..=model.states).contains(&state) {
+            return refused(6, at);
+        }
+        if state <= last {
+            return refused(15, at);
+        }
+        if count == 100 {
+            return refused(9, at);
+        }
+        (last, count) = (state, count + 1);
+        model.named[state] = true;
+    }
+    Ok(())
 }
 
 /// Reads the transitions to the end word; `sums` has the sum of the probabilities of each state with fast exits, in units of 10^-12.

@@ -4,11 +4,13 @@ use crate::damage::{damage_draft, damage_words, random_word};
 use crate::draft::Draft;
 use crate::edges;
 use crate::lossless;
+use crate::named;
 use crate::quantities::{Taste, TASTES};
 use crate::random::Random;
 use crate::shapes::SHAPES;
 use crate::varied;
 use reference::stream::Record;
+use reference::words::MOST_WORDS;
 use reference::{assess, rows, words, Answer, MOST_STEPS, ROWS_LENT};
 
 pub struct Case {
@@ -25,7 +27,7 @@ struct Asked {
 type Maker = fn(&mut Random) -> Asked;
 
 /// How often each kind comes, in thousandths or so; the shapes share what is left.
-const KINDS: [(u64, &str, Maker); 18] = [
+const KINDS: [(u64, &str, Maker); 21] = [
     (120, "budget at, one below, one above", at_budget),
     (60, "quantities at both ends", |random| shaped(random, Some(Taste::Ends))),
     (80, "prune level at or near U", |random| usual(random, edges::prune_near_upper)),
@@ -38,12 +40,15 @@ const KINDS: [(u64, &str, Maker); 18] = [
     (120, "damaged twice", |random| damaged(random, 2)),
     (20, "random words", random_words),
     (10, "budget out of range", out_of_range_budget),
-    (3, "4,000 transitions and one more", full_table),
+    (5, "4,000 transitions and one more", full_table),
     (1, "budget of 1,000,000", whole_budget),
     (60, "nearly lossless", |random| usual(random, lossless::nearly_lossless)),
     (30, "one operation loses", |random| usual(random, lossless::one_loss)),
-    (50, "one operation loses, from data", |random| usual(random, varied::varied)),
+    (70, "one operation loses, from data", |random| usual(random, varied::varied)),
     (2, "hundreds of rows", |random| usual(random, edges::hundreds_of_rows)),
+    (40, "generator's states", |random| usual(random, named::shaped)),
+    (40, "generator's states, wrong", wrongly_named),
+    (8, "a hundred generator's states", |random| usual(random, named::about_a_hundred)),
 ];
 
 const OUT_OF: u64 = 1_000;
@@ -93,14 +98,17 @@ fn usual_budget(random: &mut Random) -> u64 {
 }
 
 fn usual(random: &mut Random, shape: impl Fn(&mut Random) -> Draft) -> Asked {
-    let words = shape(random).words();
-    Asked { budget: usual_budget(random), words }
+    let mut draft = shape(random);
+    named::name_maybe(random, &mut draft);
+    Asked { words: draft.words(), budget: usual_budget(random) }
 }
 
 fn random_draft(random: &mut Random, taste: Option<Taste>) -> Draft {
     let (_, shape) = random.pick(&SHAPES);
     let taste = taste.unwrap_or(random.pick(&TASTES));
-    shape(random, taste)
+    let mut draft = shape(random, taste);
+    named::name_maybe(random, &mut draft);
+    draft
 }
 
 fn shaped(random: &mut Random, taste: Option<Taste>) -> Asked {
@@ -131,6 +139,19 @@ fn damaged(random: &mut Random, times: usize) -> Asked {
     Asked { budget, words }
 }
 
+/// Words that name states where they may not, or otherwise than they may.
+fn wrongly_named(random: &mut Random) -> Asked {
+    match random.size(0, 3) {
+        0 => usual(random, named::with_a_wrong_sum),
+        1 => {
+            let mut asked = usual(random, named::shaped);
+            named::misplace(random, &mut asked.words);
+            asked
+        }
+        _ => usual(random, named::wrong),
+    }
+}
+
 fn random_words(random: &mut Random) -> Asked {
     let mut words = random_draft(random, None).words();
     words.truncate(random.size(0, 8));
@@ -146,7 +167,8 @@ fn out_of_range_budget(random: &mut Random) -> Asked {
     Asked { budget: random.pick(&large), words }
 }
 
-/// 4,000 transitions, or one too many, or 16,006 words.
+/// 4,000 transitions, or one too many; with 100 named states as many words as there may be, and
+/// some more.
 fn full_table(random: &mut Random) -> Asked {
     let mut draft = edges::full_table(random);
     match random.size(0, 4) {
@@ -157,9 +179,12 @@ fn full_table(random: &mut Random) -> Asked {
         1 => draft.transitions.extend(draft.transitions.first().copied()),
         _ => {}
     }
+    if random.once_in(2) {
+        named::name_many(random, &mut draft);
+    }
     let mut words = draft.words();
     if random.once_in(5) {
-        words.resize(random.size(16_005, 16_007), 0);
+        words.resize(random.size(MOST_WORDS - 1, MOST_WORDS + 2), 0);
     }
     Asked { budget: random.pick(&[1, 1_000, 4_000]), words }
 }

@@ -1,13 +1,14 @@
 //! Damage to models: to the draft, and to the words.
 
-use crate::draft::{pair_word, Draft, END_WORD, FAST, SLOW};
+use crate::draft::{named_word, pair_word, Draft, END_WORD, FAST, NAMED, SLOW};
+use crate::named;
 use crate::quantities::{quantity, Taste};
 use crate::random::Random;
 use reference::model::{Law, Quantity, Transition};
 
 /// Damages a draft once.
 pub fn damage_draft(random: &mut Random, draft: &mut Draft) {
-    match random.size(0, 7) {
+    match random.size(0, 8) {
         0 => damage_head(random, draft),
         1 => {
             let start = draft.start;
@@ -16,6 +17,7 @@ pub fn damage_draft(random: &mut Random, draft: &mut Draft) {
         2 => seventeenth_exit(random, draft),
         3 => change_probability(random, draft),
         4 | 5 => change_states(random, draft),
+        6 => named::damage(random, draft),
         _ => repeat_transition(random, draft),
     }
 }
@@ -129,7 +131,7 @@ pub fn damage_words(random: &mut Random, words: &mut Vec<u32>) {
     }
 }
 
-/// Sets a bit that must be zero, in the caps, a transition or the end.
+/// Sets a bit that must be zero, in the caps, a transition, the name of a state or the end.
 fn set_zero_bit(random: &mut Random, words: &mut [u32]) {
     let place = match random.size(0, 2) {
         0 => 3.min(words.len() - 1),
@@ -139,6 +141,7 @@ fn set_zero_bit(random: &mut Random, words: &mut [u32]) {
     words[place] |= match words[place] >> 28 {
         4 => 1 << random.word(0, 11),
         5 | 7 => 1 << random.word(24, 27),
+        NAMED => 1 << random.word(12, 27),
         _ => 1 << random.word(0, 27),
     };
 }
@@ -151,6 +154,7 @@ pub fn random_word(random: &mut Random) -> u32 {
             pair_word(random.pick(&[SLOW, FAST]), random.size(0, 5), random.size(0, 5))
         }
         2 | 3 | 6 | 8..=10 => kind << 28 | random.word(0, 21) << 20 | random.word(0, 1_000_000),
+        NAMED => named_word(random.word(0, 8)),
         15 => END_WORD,
         _ => random.next() as u32,
     }

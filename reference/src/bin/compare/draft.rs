@@ -13,16 +13,24 @@ pub struct Draft {
     pub prune: Quantity,
     pub step_limit: u32,
     pub entry_limit: u32,
+    /// The bodies of the words that name the generator's states: a state, and maybe bits above it.
+    pub named: Vec<u32>,
     pub transitions: Vec<Transition>,
 }
 
 /// The kinds of words, as the bits 31 to 28.
 pub const SLOW: u32 = 5;
 pub const FAST: u32 = 7;
+pub const NAMED: u32 = 12;
 pub const END_WORD: u32 = 0xF000_0000;
 
 fn quantity_word(kind: u32, of: Quantity) -> u32 {
     kind << 28 | (of.scale & 0xFF) << 20 | of.coefficient & 0xF_FFFF
+}
+
+/// A word that names a state of the generator's.
+pub fn named_word(body: u32) -> u32 {
+    NAMED << 28 | body & 0xFFF_FFFF
 }
 
 /// Two twelve-bit fields under a kind.
@@ -31,7 +39,7 @@ pub fn pair_word(kind: u32, high: usize, low: usize) -> u32 {
 }
 
 impl Draft {
-    /// No transitions yet; step limit 24, entry limit 1, nothing pruned.
+    /// No transitions yet; step limit 24, entry limit 1, nothing pruned, no state named.
     pub fn new(states: usize, time: Quantity) -> Draft {
         Draft {
             edition: 1,
@@ -41,6 +49,7 @@ impl Draft {
             prune: quantity(0, 0),
             step_limit: 24,
             entry_limit: 1,
+            named: Vec::new(),
             transitions: Vec::new(),
         }
     }
@@ -52,6 +61,7 @@ impl Draft {
             quantity_word(3, self.prune),
             4 << 28 | (self.step_limit & 0xFF) << 20 | (self.entry_limit & 0xFF) << 12,
         ];
+        words.extend(self.named.iter().copied().map(named_word));
         for transition in &self.transitions {
             let Transition { from, to, law } = *transition;
             match law {

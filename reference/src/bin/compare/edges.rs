@@ -16,7 +16,7 @@ struct CutUppers(Vec<Figure>);
 
 impl Watcher for CutUppers {
     fn ended(&mut self, end: End, _path: &[usize], upper: MarkedFigure) {
-        if end == End::Cut {
+        if end != End::Death {
             self.0.push(upper.value);
         }
     }
@@ -256,7 +256,7 @@ pub fn sums_near_one(random: &mut Random) -> Draft {
     draft
 }
 
-/// 4,000 transitions; all fast they make 16,005 words.
+/// 4,000 transitions; all fast they make 16,005 words, with 100 named states the most there may be.
 pub fn full_table(random: &mut Random) -> Draft {
     let taste = random.pick(&TASTES);
     let each = random.pick(&[4, 8, 16]);

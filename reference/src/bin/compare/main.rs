@@ -5,6 +5,7 @@ mod damage;
 mod draft;
 mod edges;
 mod lossless;
+mod named;
 mod options;
 mod quantities;
 mod random;

@@ -5,7 +5,7 @@ use std::collections::BTreeMap;
 use std::fmt;
 
 /// The columns: reports, then refusals by number.
-const REFUSALS: [u32; 13] = [1, 2, 3, 4, 5, 6, 7, 8, 9, 10, 11, 13, 14];
+const REFUSALS: [u32; 15] = [1, 2, 3, 4, 5, 6, 7, 8, 9, 10, 11, 13, 14, 15, 16];
 
 #[derive(Default)]
 pub struct Tally {
@@ -20,6 +20,8 @@ pub struct Tally {
     /// Ended paths in the reports that were checked.
     pub exact_paths: u64,
     pub lower_above_zero: u64,
+    /// Paths that were cut in a generator's state, and the reports with such a path.
+    generators: [u64; 2],
     /// Reports by their two digits: 00, 01, 10 and 11.
     digits: [u64; 4],
     /// Digits 1 that were found to stand beside the exact sum: of lowers, of lowers above zero, and
@@ -42,6 +44,9 @@ impl Tally {
             Answer::Report(report) => {
                 self.steps += report.counts.steps;
                 self.lower_above_zero += u64::from(!report.lower.is_zero());
+                let cut = report.counts.in_generators_states;
+                self.generators[0] += cut;
+                self.generators[1] += u64::from(cut > 0);
                 let [lower, upper] = answer.exact().map(usize::from);
                 self.digits[2 * lower + upper] += 1;
                 0
@@ -105,6 +110,8 @@ impl fmt::Display for Tally {
         writeln!(out)?;
         writeln!(out, "steps in the reports: {}", self.steps)?;
         writeln!(out, "reports with a lower figure above zero: {}", self.lower_above_zero)?;
+        let [paths, reports] = self.generators;
+        writeln!(out, "cut in a generator's state: {paths} paths in {reports} reports")?;
         let [none, upper, lower, both] = self.digits;
         writeln!(out, "digits 00, 01, 10, 11: {none} {upper} {lower} {both}")?;
         let (reports, filled, deathless) = (self.with_rows, self.filled, self.deathless);

@@ -9,7 +9,8 @@ use std::sync::OnceLock;
 
 const DATA: &str = include_str!("../../../tests/data/models.txt");
 
-/// The words of the models for Item 2 of document 02, as hexadecimal digits.
+/// The words of the models for Item 2 of document 02 and of those made like them for Item 3, as
+/// hexadecimal digits.
 fn templates() -> &'static [&'static str] {
     static TEMPLATES: OnceLock<Vec<&'static str>> = OnceLock::new();
     TEMPLATES.get_or_init(|| {
@@ -25,6 +26,7 @@ fn draft_of(digits: &str) -> Option<Draft> {
     let mut draft = Draft::new(model.states, model.time);
     (draft.start, draft.prune) = (model.start, model.prune);
     (draft.step_limit, draft.entry_limit) = (model.step_limit, model.entry_limit);
+    draft.named = model.named.iter().map(|&state| state as u32).collect();
     draft.transitions = model.transitions;
     Some(draft)
 }
