@@ -4,6 +4,7 @@ use Rattle.model.proofs.Numbers.{reason-refuses, refusal-reason}
 use Rattle.tree.proofs.Faithful.{faithful-tree}
 use Rattle.tree.proofs.RowsFaithful.{faithful-rows}
 use Rattle.tree.proofs.MarksFaithful.{faithful-marks}
+use Rattle.tree.proofs.NamedFaithful.{faithful-named}
 use Rattle.accuracy.proofs.Faithful.{faithful-exact}
 use Rattle.bounds.specs.Faithful.{Faithful}
 
@@ -16,4 +17,5 @@ faithful = record {
   exact = faithful-exact;
   rows = faithful-rows;
   marks = faithful-marks;
+  named = faithful-named;
 }

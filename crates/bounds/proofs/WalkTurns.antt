@@ -15,9 +15,10 @@ use Rattle.figure.specs.Rounding.{IsFigure}
 use Rattle.figure.specs.Operands.{Sized}
 use Rattle.figure.specs.Operations.{total-up, total-down}
 use Rattle.figure.proofs.Sized.{sized-≤}
-use Rattle.word.specs.Model.{Transition, Net, is-empty, exits}
+use Rattle.word.specs.Model.{Transition, Net, is-empty, is-named, exits}
 use Rattle.word.specs.Internal.Lists.{Each}
 use Rattle.word.proofs.Members.{is-empty-length}
+use Rattle.word.proofs.Tests.{flag-test}
 use Rattle.model.specs.Index.{no-transition, transition, exit-count}
 use Rattle.model.specs.Internal.Valid.{ValidTransition, Valid}
 use Rattle.model.proofs.Slots.{slot-below, slot-exit, slot-leaves}
@@ -42,7 +43,7 @@ use Rattle.path.specs.Internal.Counts.{Few, death-more, cut-more, step-more}
 use Rattle.rows.specs.Internal.Table.{marks-in, NamesKept, DeathNoted, CutNoted, TableGathered}
 use Rattle.rows.proofs.RowTotals.{names-then, table-room, table-death, table-cut}
 use Rattle.rows.proofs.RowMarks.{and-true}
-use Rattle.path.specs.Internal.Outcomes.{outcome-of, judged}
+use Rattle.path.specs.Internal.Outcomes.{outcome-of, named-end, judged}
 use Rattle.path.specs.Internal.Exits.{tip-after, ExitOf}
 use Rattle.path.specs.Internal.Deaths.{LastStep, Cached}
 use Rattle.bounds.specs.Internal.Marks.{path-with, upper-asked, asked-marks, Marked}
@@ -64,7 +65,7 @@ module _ (l : Lent) (a : Asked) (h : Held) (x : Exit) where
   -- the outcome that the path through it is judged to have
   abbrev pub judged-there : Outcome
   judged-there =
-      judged (exit-count (l .index) (x .tip .state)) (getD (h .entered) (x .tip .state) 0) (a .left - 1) (x .tip .upper) (a .task .level) (a .task .«entry_limit»)
+      judged (named-end (l .index) (x .tip .state) (exit-count (l .index) (x .tip .state))) (exit-count (l .index) (x .tip .state)) (getD (h .entered) (x .tip .state) 0) (a .left - 1) (x .tip .upper) (a .task .level) (a .task .«entry_limit»)
 
   -- the path up to the tip; with the exit, its lower and its marks
   abbrev pub path-before : Path
@@ -266,6 +267,12 @@ module _ {l : Lent} {a : Asked} {h : Held} {x : Exit} (w : Turn l a h x) where
 
 -- ---- the visit
 
+-- a test that holds only where another does is the two together
+behind-exits : (a b : Bool) → (b ≡ true → a ≡ true) → (a && b) ≡ b
+behind-exits true b h = refl
+behind-exits false true h = h refl
+behind-exits false false h = refl
+
 module _ {l : Lent} {a : Asked} {h : Held} {x : Exit} {o : Coded} {after : Counts} {cache : Cache} {rows : List ℕ} (v : Visited l a h x o after cache rows) where
   abbrev w : Turn l a h x
   w = v .turn
@@ -279,12 +286,21 @@ module _ {l : Lent} {a : Asked} {h : Held} {x : Exit} {o : Coded} {after : Count
       ∙ ap (λ s. length (exits (net w) s)) (state-is w))
       ∙ sym (is-empty-length (exits (net w) (exit w .to)))
 
+  -- a named state has no exits
+  same-named : named-end (l .index) (x .tip .state) (exit-count (l .index) (x .tip .state)) ≡ is-named (net w) (exit w .to)
+  same-named =
+      ap₂ (λ a b. a && b) same-exits
+      (ap (λ k. eqb k 1) (w .ready .filled .indexes .indexed .named-are (x .tip .state) (there-small w)) ∙ flag-test (is-named (net w) (x .tip .state))
+      ∙ ap (is-named (net w)) (state-is w))
+      ∙ behind-exits (is-empty (exits (net w) (exit w .to))) (is-named (net w) (exit w .to)) (w .ready .filled .indexes .valid .named-end (exit w .to))
+
   same-before : getD (h .entered) (x .tip .state) 0 ≡ getD (a .entered) (exit w .to) 0
   same-before = ap₂ (λ k s. getD k s 0) (w .kept .set-back) (state-is w)
 
   outcome-is : outcome-of o ≡ outcome-there w
   unfolding judged outcome-by
   outcome-is =
+      let n = same-named in
       let p = same-exits in
       let q = same-before in
       let r = upper-is w in

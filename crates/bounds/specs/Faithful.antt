@@ -5,6 +5,7 @@ use Rattle.model.specs.Reasons.{ReasonIsRefused, RefusalHasReason}
 use Rattle.tree.specs.Faithful.{FaithfulTree}
 use Rattle.tree.specs.RowsFaithful.{FaithfulRows}
 use Rattle.tree.specs.MarksFaithful.{FaithfulMarks}
+use Rattle.tree.specs.NamedFaithful.{FaithfulNamed}
 use Rattle.accuracy.specs.Faithful.{FaithfulExact}
 
 pub record Faithful : Type 0 where
@@ -21,3 +22,5 @@ pub record Faithful : Type 0 where
   pub rows : FaithfulRows
   -- document 02, Item 2: the marks
   pub marks : FaithfulMarks
+  -- document 02, Item 3: the generator's states
+  pub named : FaithfulNamed

@@ -12,6 +12,7 @@ use lib.Seq.{getD-set-same, getD-set-other, getD-append-seam}
 use borrow.Author.Tests.{eq-eqb, ne-eqb}
 use Rattle.word.specs.Model.{Transition, Net, Model, one-if, is-empty, any, is-named, only, exits}
 use Rattle.word.proofs.Members.{is-empty-length, only-append}
+use Rattle.word.proofs.Tests.{flag-test}
 use Rattle.word.specs.Words.{to-field}
 use Rattle.model.specs.Index.{no-transition, transition, exit-count}
 use Rattle.model.proofs.Slots.{word, stands-to}
@@ -180,10 +181,6 @@ unfolding numbers-from
 numbers-last zero s = ap (λ (x : ℕ). x ∷ []) (sym (add-zero s))
 numbers-last (suc n) s = ap (λ (l : List ℕ). s ∷ l) (numbers-last n (suc s) ∙ ap (λ (x : ℕ). numbers-from n (suc s) ++ (x ∷ [])) (omega arith))
 
-one-if-test : (b : Bool) → eqb (one-if b) 1 ≡ b
-one-if-test true = refl
-one-if-test false = refl
-
 module _ {ws index : List ℕ} (indexes : Indexes ws index) {targets : List ℕ} (all : Targets (net-of ws .table) (length (net-of ws .table)) targets) where
   abbrev net : Net
   net = net-of ws
@@ -191,10 +188,10 @@ module _ {ws index : List ℕ} (indexes : Indexes ws index) {targets : List ℕ}
   marked-is : (s : ℕ) → s ≤ 1000 → marked index targets s ≡ has-row net s
   unfolding has-row
   marked-is s low =
-      ap₂ (λ a b. not a && b) (ap (λ k. eqb k 1) (indexes .indexed .named-are s low) ∙ one-if-test (is-named net s))
+      ap₂ (λ a b. not a && b) (ap (λ k. eqb k 1) (indexes .indexed .named-are s low) ∙ flag-test (is-named net s))
       (ap₂ (λ a b. a && b)
       (ap (λ k. eqb k 0) (indexes .indexed .counts-are s low) ∙ sym (is-empty-length (exits net s)))
-      (ap (λ k. eqb k 1) (all .marks s low) ∙ one-if-test (target-among (net .table) (length (net .table)) s) ∙ among-all s (net .table)))
+      (ap (λ k. eqb k 1) (all .marks s low) ∙ flag-test (target-among (net .table) (length (net .table)) s) ∙ among-all s (net .table)))
 
   pub listed-is : (n : ℕ) → n ≤ 1000 → listed index targets n ≡ only (has-row net) (numbers-from n 1)
   unfolding listed only numbers-from

@@ -28,3 +28,5 @@ pub mod Faithful
 pub mod RowsFaithful
 pub mod MarksPinned
 pub mod MarksFaithful
+pub mod NamedPinned
+pub mod NamedFaithful

@@ -76,7 +76,7 @@ row-states-range m {s} k =
     let h = each-member (λ x. (1 ≤ x) × (x < 1 + m .states)) among (numbers-bounds (m .states) 1) in
     (h .0, omega (arith, h .1))
 
-is-empty-nil : {A : Type 0} (xs : List A) → is-empty xs ≡ true → xs ≡ []
+pub is-empty-nil : {A : Type 0} (xs : List A) → is-empty xs ≡ true → xs ≡ []
 is-empty-nil [] e = refl
 is-empty-nil (x ∷ xs) e = absurd (false≢true e)
 
@@ -115,7 +115,7 @@ row-states-exactly m s = (λ k. ∥∥₁-map k (row-state-has m), λ h. ∥∥�
 
 -- ---- a death path ends in one of them
 
-death-decided : (n a b c d : Bool) → is-death (decided n a b c d) ≡ true → (n ≡ false) × (a ≡ true)
+pub death-decided : (n a b c d : Bool) → is-death (decided n a b c d) ≡ true → (n ≡ false) × (a ≡ true)
 unfolding decided
 death-decided true a b c d e = absurd (false≢true e)
 death-decided false true b c d e = (refl, refl)

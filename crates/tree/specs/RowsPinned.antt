@@ -24,11 +24,11 @@ pub record RowCase : Type 0 where
 -- ---- rows
 
 -- a row as it may lie in a lent table, of no state and with what is no figure of nine digits
-abbrev spare : ℕ → Row
+abbrev pub spare : ℕ → Row
 spare n = record { state = 4095; lower = figure n (pos 7); upper = figure 0 (pos n) }
 
 -- the row of a state: `row 2 999500000 4 100000000 3` has the lower 9.99500000E-4 and the upper 1.00000000E-3
-abbrev row : ℕ → ℕ → ℕ → ℕ → ℕ → Row
+abbrev pub row : ℕ → ℕ → ℕ → ℕ → ℕ → Row
 row s d e u f = record { state = s; lower = printed d (negℤ (pos e)); upper = printed u (negℤ (pos f)) }
 
 -- the report of some deaths and no cut
@@ -80,14 +80,14 @@ words-cut = 0x11003001 ∷ 0x2000000A ∷ 0x30000000 ∷ 0x40101000 ∷ 0x500010
 
 -- ---- the cases
 
-abbrev case : List ℕ → ℕ → List Row → Answer Report → List Row → RowCase
+abbrev pub case : List ℕ → ℕ → List Row → Answer Report → List Row → RowCase
 case ws budget lent a after = record { words = ws; budget = budget; lent = lent; answered = a; after = after }
 
 -- a refusal that changes no row
-abbrev unchanged : List ℕ → ℕ → List Row → Answer Report → RowCase
+abbrev pub unchanged : List ℕ → ℕ → List Row → Answer Report → RowCase
 unchanged ws budget lent a = case ws budget lent a lent
 
-abbrev million : ℕ
+abbrev pub million : ℕ
 million = 1000000
 
 unfoldable pub row-cases : List RowCase

@@ -1,9 +1,10 @@
--- What the tests `outside` and `differs` say. Assumes nothing.
+-- What the tests `outside` and `differs` say, and that of a flag. Assumes nothing.
 use Prim.Native.Nat.{ℕ, _≤_, _<_}
-use mathlib.Core.Path.{_≡_}
-use mathlib.Core.Bool.{true, false, or-true}
+use mathlib.Core.Path.{_≡_, refl}
+use mathlib.Core.Bool.{Bool, true, false, or-true}
 use lib.Dec.{ltb, eqb}
 use borrow.Author.Tests.{lt-ltb, le-ltb, ltb-false, eqb-true, not-false}
+use Rattle.word.specs.Model.{one-if}
 use Rattle.word.specs.Faults.{outside, differs}
 use Rattle.word.proofs.Members.{neither}
 
@@ -21,3 +22,7 @@ above-test least most n high = rw (lt-ltb most n high, or-true)
 
 pub differs-false : (a b : ℕ) → differs a b ≡ false → a ≡ b
 differs-false a b e = eqb-true a b (not-false (eqb a b) e)
+
+pub flag-test : (b : Bool) → eqb (one-if b) 1 ≡ b
+flag-test true = refl
+flag-test false = refl

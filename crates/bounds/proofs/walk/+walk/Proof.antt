@@ -33,6 +33,7 @@ use Rattle.path.proofs.deaths.no_cache.Reads as no-cache-reads
 use Rattle.path.proofs.exits.exit_at.Reads as exit-at-reads
 use Rattle.path.proofs.outcome.is_continued.Reads as is-continued-reads
 use Rattle.path.proofs.outcome.is_death.Reads as is-death-reads
+use Rattle.path.proofs.outcome.is_named_end.Reads as is-named-end-reads
 use Rattle.path.proofs.outcome.judge.Reads as judge-reads
 use Rattle.path.proofs.counts.with_cut.Reads as with-cut-reads
 use Rattle.path.proofs.counts.with_death.Reads as with-death-reads
@@ -69,6 +70,8 @@ claims t = (
   with-step-reads.Learnt,
   exit-at-reads.Asked,
   exit-at-reads.Learnt,
+  is-named-end-reads.Asked,
+  is-named-end-reads.Learnt,
   judge-reads.Asked,
   judge-reads.Learnt,
   is-death-reads.Asked,
@@ -164,7 +167,7 @@ turn t c =
 
 -- where the outcome was tested for a death first
 abbrev read-exit : (t : ℕ) (c : Tested t) → ExitRead t
-read-exit t c = c .before .before .before .before .before
+read-exit t c = c .before .before .before .before .before .before
 
 -- the path goes on, and its step was noted
 abbrev tested : (t : ℕ) (c : StepNoted t) → Tested t
@@ -180,10 +183,12 @@ VisitedAt t c =
 on : (t : ℕ) (c : StepNoted t) → is-continued (outcome-of ((tested t c) .before .judge .result)) ≡ true
 on t c = sym (c .before .before .is-continued .ensures) ∙ c .before .if4 .taken
 
--- what the path through the exit is judged to be, by the number of exits as it was read
+-- what the path through the exit is judged to be, by the number of exits and the flag as they were read
 judged-at : (t : ℕ) (c : Tested t) → let e = read-exit t c in let k = exit-loop t e in
     outcome-of (c .before .judge .result) ≡ judged-there (lent-at t (loop-begin t k)) (asked-at t (loop-begin t k)) (held-at t k) (e .exit-at .result)
-judged-at t c = rw (c .before .before .exit-count2 .ensures .0) at (c .before .judge .ensures)
+judged-at t c =
+    let e = c .before .before in
+    rw (e .is-named-end .ensures, e .before .exit-count2 .ensures .0) at (c .before .judge .ensures)
 
 visited : (t : ℕ) (c : StepNoted t) → VisitedAt t c
 visited t c =
@@ -269,11 +274,14 @@ walk-array-read-before t c = let h = there-small (turn t (c .before .before)) in
 walk-exit-count-requires-2 : (t : ℕ) → walk-lts.Need-exit-count-requires-2 (claims t) (walk-at t) walk.Post walk-Inv-loop walk-μ-loop
 walk-exit-count-requires-2 t c κs = there-small (turn t (c .before .before))
 
+walk-is-named-end-requires : (t : ℕ) → walk-lts.Need-is-named-end-requires (claims t) (walk-at t) walk.Post walk-Inv-loop walk-μ-loop
+walk-is-named-end-requires t c κs = there-small (turn t (c .before .before .before))
+
 walk-sub-judge : (t : ℕ) → walk-lts.Need-sub-judge (claims t) (walk-at t) walk.Post walk-Inv-loop walk-μ-loop
-walk-sub-judge t c = (turn t (c .before .before .before)) .ready .more
+walk-sub-judge t c = (turn t (c .before .before .before .before)) .ready .more
 
 walk-judge-requires : (t : ℕ) → walk-lts.Need-judge-requires (claims t) (walk-at t) walk.Post walk-Inv-loop walk-μ-loop
-walk-judge-requires t c κs = judge-figures (turn t (c .before .before .before))
+walk-judge-requires t c κs = judge-figures (turn t (c .before .before .before .before))
 
 walk-is-death-requires : (t : ℕ) → walk-lts.Need-is-death-requires (claims t) (walk-at t) walk.Post walk-Inv-loop walk-μ-loop
 walk-is-death-requires t c κs = tt
@@ -454,6 +462,7 @@ pub +walk-spec : {M : Type 1} → statement M
     (walk-exit-at-requires t)
     (walk-array-read-before t)
     (walk-exit-count-requires-2 t)
+    (walk-is-named-end-requires t)
     (walk-sub-judge t)
     (walk-judge-requires t)
     (walk-is-death-requires t)

@@ -1,0 +1,13 @@
+-- The definitions agree with the small cases of the generator's states: by computing them. Assumes nothing.
+use mathlib.Core.Path.{refl}
+use Rattle.tree.specs.Rows.{has-row, numbers-from, row-states, ending-in, row-on, rows-of, read-with-rows, answer-with-rows, filled-rows}
+use Rattle.tree.specs.Rows.{laid-over, rows-after}
+use Rattle.tree.specs.Marked.{all}
+use Rattle.tree.specs.RowsPinned.{same-rows, row-case-agrees}
+use Rattle.tree.specs.NamedPinned.{NamedCasesAgree, named-cases}
+use Rattle.tree.proofs.Computing.{computing}
+
+pub named-cases-agree : NamedCasesAgree
+unfolding computing NamedCasesAgree named-cases all row-case-agrees same-rows
+    has-row numbers-from row-states ending-in row-on rows-of read-with-rows answer-with-rows filled-rows laid-over rows-after
+named-cases-agree = refl
