@@ -112,4 +112,4 @@ version-number major minor patch = major * 1000000 + minor * 1000 + patch
 
 -- this version
 abbrev pub version : ℕ
-version = version-number 1 3 0
+version = version-number 1 4 0

@@ -112,10 +112,10 @@ pub extern "C" fn bounds_text(words: &[u32], budget: u64, text: &mut [u8; 256]) 
     t.len
 }
 
-// The words of some bytes, at the start of `words`, and how many there are: of more than 64,024 bytes those of the first 64,024, which are already
+// The words of some bytes, at the start of `words`, and how many there are: of more than four times 16,106 bytes those of the first so many, which are already
 // more words than a model may have. The lent bytes are unchanged; what `words` holds behind its words is free.
 #[no_mangle]
-pub extern "C" fn bounds_words(bytes: &[u8], words: &mut [u32; 16006]) -> usize
+pub extern "C" fn bounds_words(bytes: &[u8], words: &mut [u32; 16106]) -> usize
     ensures { λ r. ⌜ Spelled (take most-bytes (now (bytes .entry))) (now (words .exit)) r ⌝ }
     ensures { λ _. ⌜ now (bytes .exit) ≡ now (bytes .entry) ⌝ }
 {
@@ -167,5 +167,5 @@ pub extern "C" fn bounds_at_or_below(
 pub extern "C" fn bounds_version() -> u64
     ensures { λ r. ⌜ r ≡ version ⌝ }
 {
-    1_003_000
+    1_004_000
 }

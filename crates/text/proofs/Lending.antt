@@ -44,7 +44,7 @@ rules ws budget = record { accuracy = accuracy-theorem ws budget; marks-mean = m
 pub row-rules : (ws : List ℕ) (budget : ℕ) → Rules ws budget (answer-with-rows ws budget report-rows)
 row-rules ws budget = rw (rows-enough ws budget) (rules ws budget)
 
--- the words of the first 64,024 bytes have the answer to all of them, and its text
+-- the words of the first `most-bytes` bytes have the answer to all of them, and its text
 pub text-enough : (bytes : List ℕ) (budget : ℕ)
     → text-of (words-of bytes) budget (answer (words-of bytes) budget)
     ≡ text-of (words-of (take most-bytes bytes)) budget (answer (words-of (take most-bytes bytes)) budget)

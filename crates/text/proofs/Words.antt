@@ -1,4 +1,4 @@
--- The words of some bytes, one after the other, and why 64,024 bytes are enough. Assumes nothing.
+-- The words of some bytes, one after the other, and why so many bytes are enough. Assumes nothing.
 use Prim.Native.Nat.{ℕ, _+_, _-_, _*_, _≤_, _<_}
 use mathlib.Core.Path.{_≡_, refl, sym, ap, _∙_}
 use mathlib.Core.List.{List, [], _∷_, _++_, append-nil, append-assoc}
@@ -12,9 +12,9 @@ use lib.ListN.{length, take, drop, set, length-drop, length-set}
 use lib.Seq.{drop-drop, take-suc-set, take-all, length-take-le}
 use Rattle.word.specs.Model.{Model}
 use Rattle.word.specs.Answer.{Answer, refused, then}
-use Rattle.model.specs.Reading.{read, first-of}
+use Rattle.model.specs.Reading.{most-words, read, first-of}
 use Rattle.tree.specs.Report.{answer, walked}
-use Rattle.text.specs.Bytes.{words-of, most-bytes, Spelled}
+use Rattle.text.specs.Bytes.{words-of, words-size, most-bytes, Spelled}
 use Rattle.text.specs.Internal.Words.{word-at}
 use Rattle.text.specs.Faithful.{AnswerEnough}
 
@@ -48,16 +48,16 @@ rest l i = take-all (length l - i) (drop i l) (le-of-eq (length-drop i l))
 -- ---- word by word: the first n words stand, and the bytes from `at` on are left
 
 pub record Filled (bytes words : List ℕ) (at n : ℕ) : Type 0 where
-  pub whole : length words ≡ 16006
+  pub whole : length words ≡ words-size
   pub four : at ≡ 4 * n
   pub inside : at ≤ length bytes
   pub spelled : take n words ++ words-of (drop at bytes) ≡ words-of bytes
 
-pub filled-none : (bytes words : List ℕ) → length words ≡ 16006 → Filled bytes words 0 0
+pub filled-none : (bytes words : List ℕ) → length words ≡ words-size → Filled bytes words 0 0
 filled-none bytes words e = record { whole = e; four = refl; inside = omega arith; spelled = refl }
 
 module _ {bytes words : List ℕ} {at n : ℕ} (f : Filled bytes words at n) where
-  pub filled-more : at + 4 ≤ length bytes → n < 16006 → Filled bytes (set words n (word-at (drop at bytes))) (at + 4) (n + 1)
+  pub filled-more : at + 4 ≤ length bytes → n < words-size → Filled bytes (set words n (word-at (drop at bytes))) (at + 4) (n + 1)
   filled-more h k =
       record {
         whole = length-set words n (word-at (drop at bytes)) ∙ f .whole;
@@ -75,7 +75,7 @@ module _ {bytes words : List ℕ} {at n : ℕ} (f : Filled bytes words at n) whe
       }
 
   -- where no byte is left, and where some are but no four
-  pub spelled-all : length bytes ≤ at → n ≤ 16006 → Spelled bytes words n
+  pub spelled-all : length bytes ≤ at → n ≤ words-size → Spelled bytes words n
   spelled-all h k =
       record {
         whole = f .whole;
@@ -86,7 +86,7 @@ module _ {bytes words : List ℕ} {at n : ℕ} (f : Filled bytes words at n) whe
             ∙ f .spelled;
       }
 
-  pub spelled-last : at < length bytes → length bytes < at + 4 → n < 16006 → Spelled bytes (set words n 0) (n + 1)
+  pub spelled-last : at < length bytes → length bytes < at + 4 → n < words-size → Spelled bytes (set words n 0) (n + 1)
   spelled-last h l k =
       record {
         whole = length-set words n 0 ∙ f .whole;
@@ -110,13 +110,13 @@ many-words (a ∷ b ∷ []) = omega arith
 many-words (a ∷ b ∷ c ∷ []) = omega arith
 many-words (a ∷ b ∷ c ∷ d ∷ rest) = omega (arith, many-words rest)
 
--- ---- more than 64,024 bytes: too many words, whatever they are
+-- ---- more than `most-bytes`: too many words, whatever they are
 
-too-many : (ws : List ℕ) (budget : ℕ) → 16005 < length ws → read ws budget ≡ refused 1 0
+too-many : (ws : List ℕ) (budget : ℕ) → most-words < length ws → read ws budget ≡ refused 1 0
 unfolding read then first-of
-too-many ws budget h = rw (lt-ltb 16005 (length ws) h, read, first-of)
+too-many ws budget h = rw (lt-ltb most-words (length ws) h, read, first-of)
 
-enough : (most : ℕ) (bytes : List ℕ) (budget : ℕ) → 64020 < most → read (words-of bytes) budget ≡ read (words-of (take most bytes)) budget
+enough : (most : ℕ) (bytes : List ℕ) (budget : ℕ) → 4 * most-words < most → read (words-of bytes) budget ≡ read (words-of (take most bytes)) budget
 enough most bytes budget h = go (decLe (length bytes) most)
   where
     go : Dec (length bytes ≤ most) → read (words-of bytes) budget ≡ read (words-of (take most bytes)) budget
@@ -126,7 +126,7 @@ enough most bytes budget h = go (decLe (length bytes) most)
         too-many (words-of bytes) budget (omega (arith, many-words bytes))
         ∙ sym (too-many (words-of part) budget (omega (arith, many-words part, length-take-le most bytes (omega arith))))
 
--- however long the input, the words of its first 64,024 bytes are read as all of them are
+-- however long the input, the words of its first `most-bytes` bytes are read as all of them are
 pub read-enough : (bytes : List ℕ) (budget : ℕ) → read (words-of bytes) budget ≡ read (words-of (take most-bytes bytes)) budget
 read-enough bytes budget = enough most-bytes bytes budget (lit< tt)
 

@@ -4,6 +4,7 @@ use Prim.Native.Nat.{ℕ, _+_, _*_, _≤_}
 use mathlib.Core.Path.{_≡_}
 use mathlib.Core.List.{List, [], _∷_}
 use lib.ListN.{length, take}
+use Rattle.model.specs.Reading.{most-words}
 
 -- a word of no kind: kind 0 stands nowhere in a table
 abbrev pub no-kind : ℕ
@@ -20,13 +21,16 @@ words-of (a ∷ b ∷ []) = no-kind ∷ []
 words-of (a ∷ b ∷ c ∷ []) = no-kind ∷ []
 words-of (a ∷ b ∷ c ∷ d ∷ rest) = word a b c d ∷ words-of rest
 
--- How many bytes are looked at: one word's more than the 64,020 of the 16,005 words that a model may have, so that too many words are found to be
--- too many. `AnswerEnough` (specs/Faithful.antt) says that the answer is that to all bytes.
+-- How many words are looked at, and their bytes: one word more than a model may have, so that too many words are found to be too many. `AnswerEnough`
+-- (specs/Faithful.antt) says that the answer is that to all bytes.
+abbrev pub words-size : ℕ
+words-size = most-words + 1
+
 abbrev pub most-bytes : ℕ
-most-bytes = 64024
+most-bytes = 4 * words-size
 
 -- What `words_of` promises: the first n of these words are those of the bytes. What the others hold is free.
 pub record Spelled (bytes words : List ℕ) (n : ℕ) : Type 0 where
-  pub whole : length words ≡ 16006
-  pub within : n ≤ 16006
+  pub whole : length words ≡ words-size
+  pub within : n ≤ words-size
   pub words-are : take n words ≡ words-of bytes

@@ -39,7 +39,7 @@ pub record NineDigits (f : Figure) : Type 0 where
 abbrev pub FigureDigits : Type 0
 FigureDigits = (f : Figure) → IsFigure 9 f → (f .digits ≡ 0 → ⊥) → NineDigits f
 
--- however many bytes there are, the answer to the words of the first 64,024 is that to the words of all
+-- however many bytes there are, the answer to the words of the first `most-bytes` is that to the words of all
 abbrev pub AnswerEnough : Type 0
 AnswerEnough = (bytes : List ℕ) (budget : ℕ) → answer (words-of bytes) budget ≡ answer (words-of (take most-bytes bytes)) budget
 

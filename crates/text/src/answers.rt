@@ -1,5 +1,6 @@
 // The text of a report, of a refusal, and of the answer to some bytes.
 use crate::Text;
+use crate::bytes::WORDS_SIZE;
 use crate::bytes::words_of;
 use bounds::Answer;
 use bounds::Report;
@@ -67,7 +68,7 @@ pub fn answered(bytes: &[u8], budget: u64) -> Text
     ensures { λ _. ⌜ Rules (words-of (now (bytes .entry))) budget (answer (words-of (now (bytes .entry))) budget) ⌝ }
     ensures { λ _. ⌜ now (bytes .exit) ≡ now (bytes .entry) ⌝ }
 {
-    let mut words = [0; 16006];
+    let mut words = [0; WORDS_SIZE];
     let n = words_of(bytes, &mut words);
     words_text(&words[..n], budget)
 }

@@ -1,6 +1,8 @@
 // The report program but for its reading and writing: a buffer for the bytes of standard input, and the text to write.
 use crate::Text;
 use crate::answers::answer_text;
+use crate::bytes::BYTES_SIZE;
+use crate::bytes::WORDS_SIZE;
 use crate::bytes::words_of;
 use bounds::Answer;
 use bounds::unreliability_by_state;
@@ -16,10 +18,10 @@ ghost use Rattle.text.specs.Rules.{Rules};
 ghost use Rattle.text.specs.Faithful.{FaithfulText};
 
 // A buffer for standard input; what it holds is free. A read that fills it can stop: `AnswerEnough` of `FaithfulText`.
-pub fn input() -> [u8; 64024]
+pub fn input() -> [u8; BYTES_SIZE]
     ensures { λ r. ⌜ most-bytes ≡ length r ⌝ }
 {
-    [0; 64024]
+    [0; BYTES_SIZE]
 }
 
 // As many rows as a model can need.
@@ -51,7 +53,7 @@ pub fn report(bytes: &[u8]) -> Text
     ensures { λ _. ⌜ FaithfulText ⌝ }
     ensures { λ _. ⌜ now (bytes .exit) ≡ now (bytes .entry) ⌝ }
 {
-    let mut words = [0; 16006];
+    let mut words = [0; WORDS_SIZE];
     let n = words_of(bytes, &mut words);
     answer_text(lending_rows(&words[..n], 1_000_000))
 }

@@ -2,6 +2,8 @@
 // out.
 use libc::STDIN_FILENO;
 use libc::STDOUT_FILENO;
+use text::bytes::BYTES_SIZE;
+use text::bytes::WORDS_SIZE;
 ghost use Rattle.io.specs.Counts.{Counts};
 
 fn count(x: u32) -> usize {
@@ -28,12 +30,12 @@ fn next_model() -> bool {
     if io::read_full(STDIN_FILENO, &mut sizes) < 12 {
         return false;
     }
-    let mut header = [0u32; 16006];
+    let mut header = [0u32; WORDS_SIZE];
     text::bytes::words_of(&sizes, &mut header);
     let mut name = [0u8; 64];
     let n = next_bytes(count(header[0]), &mut name);
     io::write_all(STDOUT_FILENO, &name[..n]);
-    let mut model = [0u8; 64024];
+    let mut model = [0u8; BYTES_SIZE];
     let m = next_bytes(count(header[1]), &mut model);
     let answer = text::answers::answered(&model[..m], number(header[2]));
     let len = answer.len;

@@ -1,4 +1,4 @@
--- `text::answers::answered` meets its contract: the answer to the words of the first 64,024 bytes is that to all of them. Assumes nothing.
+-- `text::answers::answered` meets its contract: the answer to the words of the first `most-bytes` bytes is that to all of them. Assumes nothing.
 use mathlib.Core.Path.{refl, sym}
 use native.Mathlib.Omega.{arith}
 use borrow.Author.Needs.{needs}

@@ -1,4 +1,4 @@
--- `text::program::report` meets its contract: the budget and the number of rows are the documents', the answer to the words of the first 64,024 bytes is
+-- `text::program::report` meets its contract: the budget and the number of rows are the documents', the answer to the words of the first `most-bytes` bytes is
 -- that to all of them, and the laws of the text are proved. Assumes nothing.
 use mathlib.Core.Path.{refl, sym}
 use native.Mathlib.Omega.{arith}
