@@ -18,6 +18,13 @@ HEAD = [0x11005001, 0x2000000A, 0x30000000, 0x41801000]
 TRANSITIONS = [0x50001002, 0x60400001, 0x50001003, 0x60400001, 0x50002004, 0x60400001, 0x50002005, 0x60400001, 0xF0000000]
 
 
+def words_of(library, digits):
+    """The words of a line of a file: eight hexadecimal digits each, `-` at the end for left-over bytes, `.` for no words."""
+    whole = bytes.fromhex(digits.strip(".-"))
+    model = b"".join(whole[at : at + 4][::-1] for at in range(0, len(whole), 4))
+    return library.words_of(model + (b"abc" if digits.endswith("-") else b""))
+
+
 def answered(library, words, budget):
     try:
         return str(library.assess(words, budget))
@@ -29,35 +36,32 @@ class Calls(unittest.TestCase):
     library = bounds.Library()
 
     def test_expected_answers(self):
-        """A line is a name, a budget, words of eight digits (`-` at the end for left-over bytes, `.` for none) and the answer."""
+        """A line is a name, a budget, words and the answer."""
         seen = 0
         for name in ("models.txt", "papers.txt"):
             for line in (DATA / name).read_text().splitlines():
                 name, budget, digits, expected = line.split(" ")
-                whole = bytes.fromhex(digits.strip(".-"))
-                model = b"".join(whole[at : at + 4][::-1] for at in range(0, len(whole), 4))
-                words = self.library.words_of(model + (b"abc" if digits.endswith("-") else b""))
+                words = words_of(self.library, digits)
                 expected = expected.replace("|", "\n").replace("=", " ") + "\n"
                 self.assertEqual(answered(self.library, words, int(budget)), expected, name)
                 self.assertEqual(self.library.text(words, int(budget)), expected, name)
                 seen += 1
-        self.assertEqual(seen, 808)
+        self.assertEqual(seen, 1164)
 
     def test_expected_rows(self):
         """A line is a name, a budget, the number of rows lent, words and the answer, which ends in the rows that are filled."""
         lines = (DATA / "rows.txt").read_text().splitlines()
         for line in lines:
             name, budget, lent, digits, expected = line.split(" ")
-            words = [int(digits[at : at + 8], 16) for at in range(0, len(digits), 8)]
             try:
-                report, rows = self.library.assess_rows(words, int(budget), int(lent))
+                report, rows = self.library.assess_rows(words_of(self.library, digits), int(budget), int(lent))
                 found = str(report) + "".join(f"row {row.state} {row.lower} {row.upper}\n" for row in rows)
             except bounds.Refused as refused:
                 found = f"refused {refused.number} at {refused.place}\n"
                 # no rows are handed back with a refusal
                 expected = expected.split("|")[0]
             self.assertEqual(found, expected.replace("|", "\n").replace("=", " ") + "\n", name)
-        self.assertEqual(len(lines), 60)
+        self.assertEqual(len(lines), 119)
 
     def test_rows(self):
         report, rows = self.library.assess_rows(MODEL_A)

@@ -74,13 +74,13 @@ fn check_file(
 
 #[test]
 fn expected_answers() -> Result<(), Box<dyn Error>> {
-    assert_eq!(check_file("models.txt", check)?, 710);
-    assert_eq!(check_file("papers.txt", check)?, 98);
+    assert_eq!(check_file("models.txt", check)?, 1_063);
+    assert_eq!(check_file("papers.txt", check)?, 101);
     Ok(())
 }
 
 #[test]
 fn expected_rows() -> Result<(), Box<dyn Error>> {
-    assert_eq!(check_file("rows.txt", check_rows)?, 60);
+    assert_eq!(check_file("rows.txt", check_rows)?, 119);
     Ok(())
 }
