@@ -1,8 +1,8 @@
 //! A model in readable lines, turned into the words of document 01 and back.
 //!
 //! The command writes what the lines say and judges no model: a transition from a state to itself, probabilities that don't sum to 1, or a pruned state
-//! that has exits, go into words as they stand, and the library refuses them. What it refuses is what words cannot hold: a quantity of more than six digits or of too
-//! great a scale, which it never rounds, and a number that its field has no room for or document 01 no use for.
+//! that has exits, go into words as they stand, and the library refuses them. What it refuses is what words cannot hold: a quantity of more than six
+//! digits or of too great a scale, which it never rounds, and a number that its field has no room for or document 01 no use for.
 //!
 //! - [`quantity`]: decimal quantities
 //! - [`text`]: lines to words

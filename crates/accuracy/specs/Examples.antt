@@ -10,7 +10,7 @@ use Rattle.word.specs.declared.Quantity.{Quantity}
 use Rattle.word.specs.Model.{Transition, Limits}
 use Rattle.tree.specs.Tree.{tree, deaths, cuts}
 use Rattle.tree.specs.Marked.{all}
-use Rattle.tree.specs.Pinned.{quantity, slow-step, fast-step, net-of, slow-tenth, fast-sure, same-fraction}
+use Rattle.tree.specs.Pinned.{quantity, slow-step, fast-step, naming-net, slow-tenth, fast-sure, same-fraction}
 use Rattle.accuracy.specs.Rule.{exact-upper-sum, exact-lower-sum, death-upper-sum, cut-upper-sum}
 
 -- the fraction c / 10^p
@@ -29,9 +29,10 @@ wide = limits-of 24 (quantity 0 0)
 abbrev third : ℕ → ℕ → Transition
 third b c = fast-step 1 b (quantity 4 3) (quantity 3 3) (quantity c 6)
 
--- a model, started in state 1, with its four exact sums
+-- a model, started in state 1, in which these states are the generator's, with its four exact sums
 pub record Example : Type 0 where
   pub time : Quantity
+  pub named : List ℕ
   pub limits : Limits
   pub table : List Transition
   pub upper : Fraction
@@ -45,6 +46,7 @@ pub record Example : Type 0 where
 abbrev three-slow : Example
 three-slow = record {
   time = quantity 10 0;
+  named = [];
   limits = wide;
   table = slow-tenth 1 2 ∷ slow-tenth 2 3 ∷ slow-tenth 3 4 ∷ [];
   upper = ratio (pos 1) 6;
@@ -58,6 +60,7 @@ three-slow = record {
 abbrev cut-by-entries : Example
 cut-by-entries = record {
   time = quantity 1 0;
+  named = [];
   limits = wide;
   table = slow-tenth 1 2 ∷ slow-tenth 2 1 ∷ slow-tenth 2 3 ∷ [];
   upper = decimal 10 3;
@@ -70,6 +73,7 @@ cut-by-entries = record {
 abbrev no-death : Example
 no-death = record {
   time = quantity 10 0;
+  named = [];
   limits = wide;
   table = slow-tenth 1 2 ∷ slow-tenth 2 1 ∷ [];
   upper = decimal 5 1;
@@ -83,12 +87,27 @@ no-death = record {
 abbrev cut-by-level : Example
 cut-by-level = record {
   time = quantity 1 0;
+  named = [];
   limits = limits-of 24 (quantity 1 1);
   table = slow-tenth 1 2 ∷ slow-step 1 3 (quantity 2 1) ∷ slow-tenth 2 4 ∷ [];
   upper = decimal 3 1;
   lower = decimal 17 2;
   death-upper = decimal 2 1;
   cut-upper = decimal 1 1;
+}
+
+-- T 1, and the words name 3 and 5 as the generator's. 1 to 3 is a cut with the upper 0.2 × 1, 1 to 2 to 5 one with 0.1 × 0.3 × 1² / 2! = 0.015; 1 to 2
+-- to 4 is a death with 0.1² × 1² / 2! = 0.005. Its lower: A = 0.3 + 0.4, 1 − 1 × 0.7 / 3 = 23/30; 0.005 × 23/30 = 23/6000.
+abbrev cut-by-name : Example
+cut-by-name = record {
+  time = quantity 1 0;
+  named = 3 ∷ 5 ∷ [];
+  limits = wide;
+  table = slow-tenth 1 2 ∷ slow-step 1 3 (quantity 2 1) ∷ slow-tenth 2 4 ∷ slow-step 2 5 (quantity 3 1) ∷ [];
+  upper = decimal 22 2;
+  lower = ratio (pos 23) 6000;
+  death-upper = decimal 5 3;
+  cut-upper = decimal 215 3;
 }
 
 -- ---- classes 2 and 3
@@ -99,6 +118,7 @@ cut-by-level = record {
 abbrev pub class3-deaths : Example
 class3-deaths = record {
   time = quantity 1 0;
+  named = [];
   limits = limits-of 1 (quantity 0 0);
   table = slow-tenth 1 2 ∷ slow-step 1 3 (quantity 3 1) ∷ fast-step 1 4 (quantity 3 4) (quantity 0 0) (quantity 25 2)
       ∷ fast-step 1 5 (quantity 1 4) (quantity 2 4) (quantity 75 2) ∷ slow-tenth 4 1 ∷ slow-tenth 5 1 ∷ [];
@@ -113,6 +133,7 @@ class3-deaths = record {
 abbrev class2-death : Example
 class2-death = record {
   time = quantity 1 0;
+  named = [];
   limits = limits-of 1 (quantity 0 0);
   table = fast-sure 1 2 (quantity 2 3) ∷ slow-step 1 3 (quantity 10 0) ∷ slow-tenth 3 1 ∷ [];
   upper = decimal 102 2;
@@ -128,6 +149,7 @@ class2-death = record {
 abbrev thirds : Example
 thirds = record {
   time = quantity 20 0;
+  named = [];
   limits = wide;
   table = third 2 333333 ∷ third 3 333333 ∷ third 4 333334 ∷ slow-step 4 5 (quantity 1 2) ∷ [];
   upper = decimal 7333328 7;
@@ -144,6 +166,7 @@ thirds = record {
 abbrev each-class : Example
 each-class = record {
   time = quantity 10 0;
+  named = [];
   limits = limits-of 3 (quantity 0 0);
   table = slow-tenth 1 2 ∷ fast-sure 2 3 (quantity 2 2) ∷ slow-tenth 3 4 ∷ fast-sure 3 5 (quantity 1 3) ∷ slow-tenth 5 1 ∷ [];
   upper = decimal 10001 4;
@@ -159,6 +182,7 @@ each-class = record {
 abbrev time-filled : Example
 time-filled = record {
   time = quantity 4 0;
+  named = [];
   limits = wide;
   table = fast-sure 1 2 (quantity 1 0) ∷ fast-step 2 3 (quantity 1 0) (quantity 0 0) (quantity 5 1)
       ∷ fast-step 2 4 (quantity 1 0) (quantity 0 0) (quantity 5 1) ∷ fast-sure 4 5 (quantity 1 0) ∷ [];
@@ -172,6 +196,7 @@ time-filled = record {
 abbrev last-negative : Example
 last-negative = record {
   time = quantity 10 0;
+  named = [];
   limits = wide;
   table = slow-step 1 2 (quantity 1 0) ∷ [];
   upper = whole 10;
@@ -185,6 +210,7 @@ last-negative = record {
 abbrev steps-negative : Example
 steps-negative = record {
   time = quantity 1 0;
+  named = [];
   limits = wide;
   table = fast-sure 1 2 (quantity 2 3) ∷ slow-step 1 3 (quantity 1000 0) ∷ [];
   upper = whole 3;
@@ -198,6 +224,7 @@ steps-negative = record {
 abbrev two-negative : Example
 two-negative = record {
   time = quantity 1 0;
+  named = [];
   limits = wide;
   table = fast-sure 1 2 (quantity 2 3) ∷ slow-step 1 3 (quantity 1000 0) ∷ slow-step 2 4 (quantity 10 0) ∷ [];
   upper = whole 12;
@@ -210,12 +237,12 @@ two-negative = record {
 
 unfoldable pub examples : List Example
 examples =
-    three-slow ∷ cut-by-entries ∷ no-death ∷ cut-by-level ∷ class3-deaths ∷ class2-death ∷ thirds ∷ each-class
+    three-slow ∷ cut-by-entries ∷ no-death ∷ cut-by-level ∷ cut-by-name ∷ class3-deaths ∷ class2-death ∷ thirds ∷ each-class
     ∷ time-filled ∷ last-negative ∷ steps-negative ∷ two-negative ∷ []
 
 unfoldable pub example-agrees : Example → Bool
 example-agrees x =
-    let net = net-of (x .time) (x .table) in
+    let net = naming-net (x .named) (x .time) (x .table) in
     let vs = tree net (x .limits) in
     same-fraction (exact-upper-sum net (deaths vs) (cuts vs)) (x .upper)
     && (same-fraction (exact-lower-sum net (deaths vs)) (x .lower)

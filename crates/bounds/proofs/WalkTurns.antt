@@ -65,7 +65,9 @@ module _ (l : Lent) (a : Asked) (h : Held) (x : Exit) where
   -- the outcome that the path through it is judged to have
   abbrev pub judged-there : Outcome
   judged-there =
-      judged (named-end (l .index) (x .tip .state) (exit-count (l .index) (x .tip .state))) (exit-count (l .index) (x .tip .state)) (getD (h .entered) (x .tip .state) 0) (a .left - 1) (x .tip .upper) (a .task .level) (a .task .«entry_limit»)
+      let exits = exit-count (l .index) (x .tip .state) in
+      judged (named-end (l .index) (x .tip .state) exits) exits (getD (h .entered) (x .tip .state) 0) (a .left - 1) (x .tip .upper) (a .task .level)
+      (a .task .«entry_limit»)
 
   -- the path up to the tip; with the exit, its lower and its marks
   abbrev pub path-before : Path

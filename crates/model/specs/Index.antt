@@ -58,7 +58,7 @@ exit-count index s = getD index (16016 + s) 0
 abbrev pub place-of : List ℕ → ℕ → ℕ
 place-of index j = getD index (17017 + j) 0
 
--- the flag of the state s: whether it is one of the generator's
+-- the flag of the state s: 1 if it is one of the generator's, else 0
 abbrev pub named-flag : List ℕ → ℕ → ℕ
 named-flag index s = getD index (21017 + s) 0
 

@@ -1,5 +1,5 @@
--- The list of row states is what document 02 says of it: each state without exits that is a target and none of the generator's, rising, and so each that a death path ends in; it
--- has at most N states. Assumes nothing.
+-- The list of row states is what document 02 says of it: each state without exits that is a target and none of the generator's, rising, and so each
+-- that a death path ends in; it has at most N states. Assumes nothing.
 use Prim.Native.Nat.{ℕ, zero, suc, _+_, _≤_, _<_}
 use mathlib.Core.Path.{_≡_, refl, sym, ap, ap₂, _∙_}
 use mathlib.Core.Bool.{Bool, true, false, not, _&&_, false≢true}
@@ -137,7 +137,15 @@ module _ {m : Model} (valid : Valid m) where
       arrives : List·Memᴰ t (m .net .table) → HasRow m (t .to)
       arrives k =
           let v = each-member (ValidTransition (m .states)) k (valid .table) in
-          record { low = v .to-low; high = v .to-high; not-named = ended .0; no-exits = is-empty-nil (exits (m .net) (t .to)) (ended .1); by = t; in-table = k; target = refl }
+          record {
+            low = v .to-low;
+            high = v .to-high;
+            not-named = ended .0;
+            no-exits = is-empty-nil (exits (m .net) (t .to)) (ended .1);
+            by = t;
+            in-table = k;
+            target = refl;
+          }
 
 pub every-death-has-row : EveryDeathHasRow
 every-death-has-row ws budget m e p k =

@@ -29,9 +29,13 @@ slow-step a b r = record { from = a; to = b; manner = slow r }
 abbrev pub fast-step : ℕ → ℕ → Quantity → Quantity → Quantity → Transition
 fast-step a b m d q = record { from = a; to = b; manner = fast m d q }
 
--- start 1, a mission time and no generator's state
+-- start 1, these states the generator's, and a mission time
+abbrev pub naming-net : List ℕ → Quantity → List Transition → Net
+naming-net named time table = record { start = 1; time = time; named = named; table = table }
+
+-- the same without a generator's state
 abbrev pub net-of : Quantity → List Transition → Net
-net-of time table = record { start = 1; time = time; named = []; table = table }
+net-of time table = naming-net [] time table
 
 -- rate 0.1
 abbrev pub slow-tenth : ℕ → ℕ → Transition

@@ -1,5 +1,5 @@
--- Document 02, Item 1, "A row for each way to fail", and of Item 3 that a generator's state "has no row": which states have rows, what a row holds, the rows that a caller finds after the call, and
--- refusal 14. Assumes nothing: these are definitions.
+-- Document 02, Item 1, "A row for each way to fail", and of Item 3 that a generator's state "has no row": which states have rows, what a row holds, the
+-- rows that a caller finds after the call, and refusal 14. Assumes nothing: these are definitions.
 use Prim.Native.Nat.{ℕ, zero, suc}
 use mathlib.Core.Bool.{Bool, true, false, not, _&&_}
 use mathlib.Core.List.{List, [], _∷_, _++_, map}
@@ -18,7 +18,8 @@ use Rattle.tree.specs.Report.{Report, report-of, walked}
 
 -- ---- which states have rows
 
--- "each state that has no exits and is the target of a transition", whether a path of the tree reaches it or not, unless it is one of the generator's
+-- "each state that has no exits and is the target of a transition", whether a path of the tree reaches it or not; of a generator's
+-- state, "the state has no row"
 unfoldable pub has-row : Net → ℕ → Bool
 has-row net s = not (is-named net s) && (is-empty (exits net s) && any (λ t. eqb (t .to) s) (net .table))
 

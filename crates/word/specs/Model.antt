@@ -55,6 +55,7 @@ unfoldable pub any : {A : Type 0} → (A → Bool) → List A → Bool
 any test [] = false
 any test (x ∷ xs) = test x || any test xs
 
+-- a truth value as a number
 abbrev pub one-if : Bool → ℕ
 one-if true = 1
 one-if false = 0

@@ -24,6 +24,7 @@ outcome-of Continued = continued
 abbrev pub named-end : (index : List ℕ) → (s exits : ℕ) → Bool
 named-end index s exits = eqb exits 0 && eqb (named-flag index s) 1
 
--- what becomes of a path: by whether its last state is the generator's, the number of its last state's exits, how often it entered that state before, the steps left, U, P and V
+-- what becomes of a path: by whether its last state is the generator's, that state's number of exits, how often it entered it before, the steps left,
+-- U, P and V
 unfoldable pub judged : Bool → ℕ → ℕ → ℕ → Figure → Figure → ℕ → Outcome
 judged named exits before left u level most = decided named (eqb exits 0) (leb most before) (eqb left 0) (at-or-below u level)

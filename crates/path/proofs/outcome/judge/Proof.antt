@@ -33,14 +33,28 @@ unfolding judged decided
 returns-5 c =
     let e = c .before in
     let f = e .before .before .before in
-    rw (f .before .if1 .left, ne-eqb _ _ (f .if2 .left), lt-leb _ _ (e .before .before .if3 .left), ne-eqb _ _ (e .before .if4 .left), sym (e .at-or-below .ensures) ∙ c .if5 .taken, decided)
+    rw (
+      f .before .if1 .left,
+      ne-eqb _ _ (f .if2 .left),
+      lt-leb _ _ (e .before .before .if3 .left),
+      ne-eqb _ _ (e .before .if4 .left),
+      sym (e .at-or-below .ensures) ∙ c .if5 .taken,
+      decided,
+    )
 
 returns-6 : tie.Need-returns-6
 unfolding judged decided
 returns-6 c =
     let e = c .before in
     let f = e .before .before .before in
-    rw (f .before .if1 .left, ne-eqb _ _ (f .if2 .left), lt-leb _ _ (e .before .before .if3 .left), ne-eqb _ _ (e .before .if4 .left), sym (e .at-or-below .ensures) ∙ c .if5 .left, decided)
+    rw (
+      f .before .if1 .left,
+      ne-eqb _ _ (f .if2 .left),
+      lt-leb _ _ (e .before .before .if3 .left),
+      ne-eqb _ _ (e .before .if4 .left),
+      sym (e .at-or-below .ensures) ∙ c .if5 .left,
+      decided,
+    )
 
 pub judge-spec : {M : Type 1} → statement M
 judge-spec = tie.close (tie.spec returns returns-2 returns-3 returns-4 at-or-below-requires returns-5 returns-6)
