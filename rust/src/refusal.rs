@@ -89,7 +89,7 @@ impl Reason {
                 party: Party::Caller,
                 place: Place::Nothing,
                 sentence: "The model has more than 16,105 words.",
-                advice: "The wrong file, or more than 4,000 transitions. Left-over bytes count as one more word.",
+                advice: "The wrong file, more than 4,000 transitions, or more than 100 named states. Left-over bytes count as one more word.",
             },
             Reason::BudgetOutOfRange => Entry {
                 number: 2,

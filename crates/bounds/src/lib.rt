@@ -156,7 +156,7 @@ pub fn unreliability(words: &[u32], budget: u64) -> Answer
 }
 
 // The same, and in the caller's rows the bounds on each way to fail: the first are filled, one for each state without exits that is the target of a
-// transition. It takes every list of words, every budget and any number of rows.
+// transition and none of the generator's. It takes every list of words, every budget and any number of rows.
 pub fn unreliability_by_state(words: &[u32], budget: u64, rows: &mut [Row]) -> Answer
     ensures { λ r. ⌜ PromisedRows (now (words .entry)) (now (words .exit)) budget (now (rows .entry)) (now (rows .exit)) r ⌝ }
 {

@@ -85,8 +85,8 @@ pub extern "C" fn bounds_assess(
     put_answer(unreliability(words, budget), values, powers)
 }
 
-// The same, and the caller's first rows filled: in order of state number, one for each state without exits that is the target of a transition. Rows
-// beyond them are unchanged, and so are all on a refusal but 13, on which those filled hold zeros beside their state numbers.
+// The same, and the caller's first rows filled: in order of state number, one for each state without exits that is the target of a transition and none
+// of the generator's. Rows beyond them are unchanged, and so are all on a refusal but 13, on which those filled hold zeros beside their state numbers.
 #[no_mangle]
 pub extern "C" fn bounds_assess_rows(
     words: &[u32],
@@ -112,8 +112,8 @@ pub extern "C" fn bounds_text(words: &[u32], budget: u64, text: &mut [u8; 256]) 
     t.len
 }
 
-// The words of some bytes, at the start of `words`, and how many there are: of more than four times 16,106 bytes those of the first so many, which are already
-// more words than a model may have. The lent bytes are unchanged; what `words` holds behind its words is free.
+// The words of some bytes, at the start of `words`, and how many there are: of more bytes than `words` has room for those of the first, which are
+// already more words than a model may have. The lent bytes are unchanged; what `words` holds behind its words is free.
 #[no_mangle]
 pub extern "C" fn bounds_words(bytes: &[u8], words: &mut [u32; 16106]) -> usize
     ensures { λ r. ⌜ Spelled (take most-bytes (now (bytes .entry))) (now (words .exit)) r ⌝ }

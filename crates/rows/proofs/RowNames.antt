@@ -100,7 +100,7 @@ module _ {ws index : List ℕ} (indexes : Indexes ws index) {j w d : ℕ} (insid
 
 -- ---- the list
 
--- the two tests
+-- one state more, which has a row or none
 module _ (index targets : List ℕ) where
   pub listed-pass : (n : ℕ) → marked index targets (suc n) ≡ true → listed index targets (suc n) ≡ listed index targets n ++ (suc n ∷ [])
   unfolding listed

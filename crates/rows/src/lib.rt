@@ -1,5 +1,5 @@
-// The rows of a model, one for each state without exits that is the target of a transition: which they are, their totals, and the caller's rows filled
-// from them.
+// The rows of a model, one for each state without exits that is the target of a transition and none of the generator's: which they are, their totals,
+// and the caller's rows filled from them.
 ghost use mathlib.Core.Path.{_≡_};
 ghost use lib.ListN.{length};
 ghost use Rattle.rows.specs.Internal.Table.{row-count};

@@ -1,5 +1,6 @@
--- What document 02, Item 3, "States that the generator pruned", says of these states in words, where the definitions compute: each sentence as a
--- statement, and all of them in one record. The proof is `faithful-named` (crates/tree/proofs/NamedFaithful.antt). Assumes nothing: these are statements.
+-- What document 02, Item 3, "States that the generator pruned", says of these states in words, where the definitions compute: each as a
+-- statement, and all of them in one record. That such a state has no row is in RowsFaithful; when the words that name it are refused, in Reasons of
+-- crates/model. The proof is `faithful-named` (crates/tree/proofs/NamedFaithful.antt). Assumes nothing: these are statements.
 use Prim.Native.Nat.{ℕ}
 use mathlib.Core.Path.{_≡_}
 use mathlib.Core.Bool.{true, false}
@@ -25,7 +26,7 @@ NamedIsCut = (net : Net) (limits : Limits) (v : Visit) → List·Memᴰ v (tree 
 abbrev pub NamedIsNoDeath : Type 0
 NamedIsNoDeath = (net : Net) (limits : Limits) (p : Path) → List·Memᴰ p (deaths (tree net limits)) → is-named net (last-state net p) ≡ false
 
--- in a model that is not refused such a state has no exits, so that a path that ends there leaves nothing out
+-- in a model that is not refused such a state has no exits, so that no path goes on beyond it
 abbrev pub NamedHasNoExits : Type 0
 NamedHasNoExits = (ws : List ℕ) (budget : ℕ) (m : Model) → read ws budget ≡ Answer.granted m → (s : ℕ) → is-named (m .net) s ≡ true
     → exits (m .net) s ≡ []

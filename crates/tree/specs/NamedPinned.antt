@@ -84,7 +84,7 @@ named-cases =
     ∷ case (forked (naming (3 ∷ 4 ∷ 5 ∷ []))) million [] (granted all-named) []
     -- on 13 as well
     ∷ case (forked (naming (3 ∷ 5 ∷ []))) 3 (spare 1 ∷ []) (refused 13 0) (zero-row 4 ∷ [])
-    -- a path that comes to 3 by its last step below L, and with U at P, is a cut either way; 4 is not reached
+    -- L 1 and P 1E-3: a path that comes to 3 with L steps and with U at P is cut all the same; 4 has a row and is not reached
     ∷ case (0x11005001 ∷ 0x2000000A ∷ 0x30300001 ∷ 0x40101000 ∷ (naming (3 ∷ 5 ∷ []) ++ fork)) million (spare 1 ∷ [])
     (granted
     (record {

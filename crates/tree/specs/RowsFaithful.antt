@@ -1,5 +1,6 @@
 -- What document 02, Item 1, "A row for each way to fail", and Item 3 of a generator's state, say of the rows in words, where the definitions
--- compute: each sentence as a statement, and all of them in one record. The proof is `faithful-rows` (crates/tree/proofs/RowsFaithful.antt). Assumes nothing: these are statements.
+-- compute: each sentence as a statement, and all of them in one record. The proof is `faithful-rows` (crates/tree/proofs/RowsFaithful.antt). Assumes
+-- nothing: these are statements.
 use Prim.Native.Nat.{ℕ, _≤_, _<_}
 use mathlib.Core.Path.{_≡_}
 use mathlib.Core.Bool.{false}

@@ -1,4 +1,4 @@
-// Tests of one word, each handed its place and the part of the words that begins at it, or for a transition the word.
+// Tests of one word, each handed its place and the part of the words that begins at it, or, where its kind is known, the word itself.
 use crate::Refusal;
 use crate::Verdict;
 use crate::fields::caps_rest;
