@@ -10,14 +10,14 @@ use lib.Dec.{eqb}
 use lib.ListN.{length, getD, set, replicate, length-set, length-append, List·getD-append}
 use lib.Seq.{getD-set-same, getD-set-other, getD-append-seam}
 use borrow.Author.Tests.{eq-eqb, ne-eqb}
-use Rattle.word.specs.Model.{Transition, Net, Model, one-if, is-empty, any, is-named, only, exits}
+use Rattle.word.specs.Model.{Transition, Net, Model, one-if, is-empty, any, numbers-from, is-named, only, exits}
 use Rattle.word.proofs.Members.{is-empty-length, only-append}
 use Rattle.word.proofs.Tests.{flag-test}
 use Rattle.word.specs.Words.{to-field}
 use Rattle.model.specs.Index.{no-transition, transition, exit-count}
 use Rattle.model.proofs.Slots.{word, stands-to}
 use Rattle.tables.proofs.Classes.{step-valid}
-use Rattle.tree.specs.Rows.{has-row, numbers-from, row-states}
+use Rattle.tree.specs.Rows.{has-row, row-states}
 use Rattle.tables.specs.Internal.Described.{Indexes, described, net-of}
 use Rattle.rows.specs.Internal.Table.{row-state}
 use Rattle.rows.specs.Internal.Names.{target-among, Targets, marked, listed, Listed, Named}

@@ -6,6 +6,7 @@ use native.Mathlib.Omega.{arith}
 use Rattle.word.specs.Model.{exits}
 use Rattle.word.proofs.Members.{each-member}
 use Rattle.model.proofs.ReadValid.{read-valid}
+use Rattle.model.proofs.NamedPinned.{named-readings-agree}
 use Rattle.tree.specs.Tree.{generators-state, is-cut, is-death}
 use Rattle.tree.specs.NamedFaithful.{OutcomeOfNamed, NamedIsCut, NamedIsNoDeath, NamedHasNoExits, FaithfulNamed}
 use Rattle.tree.specs.Internal.Outcomes.{decided}
@@ -53,5 +54,6 @@ faithful-named = record {
   named-is-cut = named-is-cut;
   named-is-no-death = named-is-no-death;
   named-has-no-exits = named-has-no-exits;
+  named-readings-agree = named-readings-agree;
   named-cases-agree = named-cases-agree;
 }

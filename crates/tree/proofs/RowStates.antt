@@ -10,14 +10,14 @@ use native.Mathlib.Decide.{ℕ-discrete}
 use lib.ListN.{length}
 use lib.Dec.{eqb}
 use borrow.Author.Tests.{eqb-true, eq-eqb}
-use Rattle.word.specs.Model.{Model, is-empty, any, is-named, leaves, exits-in, exits}
+use Rattle.word.specs.Model.{Model, is-empty, any, numbers-from, is-named, leaves, exits-in, exits}
 use Rattle.word.specs.Internal.Lists.{Each}
 use Rattle.word.proofs.Members.{both, each-monotone, each-member, only-length, any-some}
 use Rattle.model.specs.Internal.Valid.{ValidTransition, Valid}
 use Rattle.model.proofs.ReadValid.{read-valid}
 use Rattle.tree.specs.Paths.{Path, last-state, IsPath}
 use Rattle.tree.specs.Tree.{is-death}
-use Rattle.tree.specs.Rows.{has-row, numbers-from, row-states}
+use Rattle.tree.specs.Rows.{has-row, row-states}
 use Rattle.tree.specs.RowsFaithful.{HasRow, RowStatesExactly, RowStatesRise, EveryDeathHasRow}
 use Rattle.tree.specs.Internal.Outcomes.{decided}
 use Rattle.tree.proofs.Lists.{only-member, only-from, any-member, InOrder, in-order-only, in-order-lookup}

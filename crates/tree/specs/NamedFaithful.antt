@@ -9,6 +9,7 @@ use mathlib.Core.List.{List, [], List·Memᴰ}
 use Rattle.word.specs.Model.{Net, Limits, Model, is-named, exits}
 use Rattle.word.specs.Answer.{Answer}
 use Rattle.model.specs.Reading.{read}
+use Rattle.model.specs.NamedPinned.{NamedReadingsAgree}
 use Rattle.tree.specs.Paths.{Path, last-state}
 use Rattle.tree.specs.Tree.{generators-state, outcome, is-cut, Visit, tree, deaths}
 use Rattle.tree.specs.NamedPinned.{NamedCasesAgree}
@@ -41,5 +42,7 @@ pub record FaithfulNamed : Type 0 where
   pub named-is-no-death : NamedIsNoDeath
   -- "16 when a named state has exits"
   pub named-has-no-exits : NamedHasNoExits
+  -- what reading small lists of words gives is what is worked out apart from the definitions
+  pub named-readings-agree : NamedReadingsAgree
   -- the answer and the whole table after the call, of small cases, are what is worked out apart from the definitions
   pub named-cases-agree : NamedCasesAgree

@@ -1,12 +1,12 @@
 -- Document 02, Item 1, "A row for each way to fail", and of Item 3 that a generator's state "has no row": which states have rows, what a row holds, the
 -- rows that a caller finds after the call, and refusal 14. Assumes nothing: these are definitions.
-use Prim.Native.Nat.{ℕ, zero, suc}
+use Prim.Native.Nat.{ℕ}
 use mathlib.Core.Bool.{Bool, true, false, not, _&&_}
 use mathlib.Core.List.{List, [], _∷_, _++_, map}
 use lib.ListN.{length, drop}
 use lib.Dec.{ltb, eqb}
 use Rattle.figure.specs.Rounding.{none}
-use Rattle.word.specs.Model.{Net, Model, is-empty, any, is-named, only, exits}
+use Rattle.word.specs.Model.{Net, Model, is-empty, any, numbers-from, is-named, only, exits}
 use Rattle.word.specs.Answer.{Answer, then}
 use Rattle.model.specs.Reading.{Finding, first-of, read}
 use Rattle.tree.specs.declared.Row.{Row}
@@ -22,11 +22,6 @@ use Rattle.tree.specs.Report.{Report, report-of, walked}
 -- state, "the state has no row"
 unfoldable pub has-row : Net → ℕ → Bool
 has-row net s = not (is-named net s) && (is-empty (exits net s) && any (λ t. eqb (t .to) s) (net .table))
-
--- the n numbers from s on
-unfoldable pub numbers-from : ℕ → ℕ → List ℕ
-numbers-from zero s = []
-numbers-from (suc n) s = s ∷ numbers-from n (suc s)
 
 -- "A row is filled, in order of state number, for each state ..": states are 1 to N
 unfoldable pub row-states : Model → List ℕ

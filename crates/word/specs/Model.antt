@@ -1,6 +1,6 @@
 -- What a word table describes: a semi-Markov model. Document 01, "The model words"; document 02, Item 3, "States that the generator pruned". Assumes
 -- nothing: these are definitions.
-use Prim.Native.Nat.{ℕ, _+_, _-_, _*_, _^_}
+use Prim.Native.Nat.{ℕ, zero, suc, _+_, _-_, _*_, _^_}
 use mathlib.Core.Bool.{Bool, true, false, _||_}
 use mathlib.Core.List.{List, [], _∷_}
 use lib.Dec.{eqb}
@@ -54,6 +54,11 @@ only test (x ∷ xs) = elim (test x) [ true ↦ x ∷ only test xs | false ↦ o
 unfoldable pub any : {A : Type 0} → (A → Bool) → List A → Bool
 any test [] = false
 any test (x ∷ xs) = test x || any test xs
+
+-- the n numbers from s on
+unfoldable pub numbers-from : ℕ → ℕ → List ℕ
+numbers-from zero s = []
+numbers-from (suc n) s = s ∷ numbers-from n (suc s)
 
 -- a truth value as a number
 abbrev pub one-if : Bool → ℕ
