@@ -15,6 +15,7 @@ use bounds::unreliability;
 use bounds::unreliability_by_state;
 use figure::Figure;
 use text::answers::words_text;
+use text::bytes::WORDS_SIZE;
 use text::bytes::words_of;
 use tree::Row;
 
@@ -115,7 +116,7 @@ pub extern "C" fn bounds_text(words: &[u32], budget: u64, text: &mut [u8; 256]) 
 // The words of some bytes, at the start of `words`, and how many there are: of more bytes than `words` has room for those of the first, which are
 // already more words than a model may have. The lent bytes are unchanged; what `words` holds behind its words is free.
 #[no_mangle]
-pub extern "C" fn bounds_words(bytes: &[u8], words: &mut [u32; 16106]) -> usize
+pub extern "C" fn bounds_words(bytes: &[u8], words: &mut [u32; WORDS_SIZE]) -> usize
     ensures { λ r. ⌜ Spelled (take most-bytes (now (bytes .entry))) (now (words .exit)) r ⌝ }
     ensures { λ _. ⌜ now (bytes .exit) ≡ now (bytes .entry) ⌝ }
 {
