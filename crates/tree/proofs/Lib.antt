@@ -29,4 +29,5 @@ pub mod RowsFaithful
 pub mod MarksPinned
 pub mod MarksFaithful
 pub mod NamedPinned
+pub mod Nameless
 pub mod NamedFaithful

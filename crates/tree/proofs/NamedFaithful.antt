@@ -8,12 +8,13 @@ use Rattle.word.proofs.Members.{each-member}
 use Rattle.model.proofs.ReadValid.{read-valid}
 use Rattle.model.proofs.NamedPinned.{named-readings-agree}
 use Rattle.tree.specs.Tree.{generators-state, is-cut, is-death}
-use Rattle.tree.specs.NamedFaithful.{OutcomeOfNamed, NamedIsCut, NamedIsNoDeath, NamedHasNoExits, FaithfulNamed}
+use Rattle.tree.specs.NamedFaithful.{OutcomeOfNamed, NamedIsCut, NamedIsNoDeath, NamedHasNoExits, NamesOnlyCut, FaithfulNamed}
 use Rattle.tree.specs.Internal.Outcomes.{decided}
 use Rattle.tree.proofs.Outcomes.{outcome-decided}
 use Rattle.tree.proofs.Visits.{TreeVisit, tree-sound}
 use Rattle.tree.proofs.Ended.{InTree, paths-in-tree}
 use Rattle.tree.proofs.RowStates.{is-empty-nil, death-decided}
+use Rattle.tree.proofs.Nameless.{nameless-tree}
 use Rattle.tree.proofs.NamedPinned.{named-cases-agree}
 
 decided-named : (n a b c d : Bool) → decided n a b c d ≡ generators-state → n ≡ true
@@ -48,12 +49,16 @@ named-is-no-death net limits p k =
 named-has-no-exits : NamedHasNoExits
 named-has-no-exits ws budget m e s named = is-empty-nil (exits (m .net) s) (read-valid ws budget m e .named-end s named)
 
+names-only-cut : NamesOnlyCut
+names-only-cut ws budget m e limits = nameless-tree (m .net) limits (read-valid ws budget m e .named-end)
+
 pub faithful-named : FaithfulNamed
 faithful-named = record {
   outcome-of-named = outcome-of-named;
   named-is-cut = named-is-cut;
   named-is-no-death = named-is-no-death;
   named-has-no-exits = named-has-no-exits;
+  names-only-cut = names-only-cut;
   named-readings-agree = named-readings-agree;
   named-cases-agree = named-cases-agree;
 }
