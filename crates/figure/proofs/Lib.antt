@@ -26,3 +26,4 @@ pub mod Totals
 pub mod Orders
 pub mod Differences
 pub mod Ceilings
+pub mod Tested

@@ -31,9 +31,9 @@ sized-≤ h s = record { is-figure = s .is-figure; near = le-trans (s .near) h }
 pub operand : {K : ℕ} {f : Figure} → Sized K 2000 f → Operand K f
 operand s = sized-≤ (lit≤ tt) s
 
--- every figure with a power from -2,000 to 2,000 is an operand
-pub operand-2000 : (K : ℕ) (f : Figure) → IsFigure K f → negsuc 1999 ≤ℤ f .power → f .power ≤ℤ pos 2000 → Operand K f
-operand-2000 K f i a b = operand (record { is-figure = i; near = go (f .power) a b })
+-- every figure with a power from -2,000 to 2,000, and so an operand
+pub sized-2000 : (K : ℕ) (f : Figure) → IsFigure K f → negsuc 1999 ≤ℤ f .power → f .power ≤ℤ pos 2000 → Sized K 2000 f
+sized-2000 K f i a b = record { is-figure = i; near = go (f .power) a b }
   where
     go : (p : ℤ) → negsuc 1999 ≤ℤ p → p ≤ℤ pos 2000 → mag p ≤ 2000
     go (pos n) a b = leb→le _ _ (b .le)

@@ -8,6 +8,7 @@ ghost use Rattle.figure.specs.Operands.{Operand};
 ghost use Rattle.figure.specs.Operations as ops;
 ghost use Rattle.figure.specs.Losses as losses;
 ghost use Rattle.figure.specs.Losses.{told};
+ghost use Rattle.figure.specs.Tested.{figure-test};
 ghost use Rattle.figure.specs.Internal.Ceiling.{Ceiling};
 
 mod ceiling;
@@ -41,6 +42,19 @@ impl Figure {
             digits: 0,
             power: 0,
         }
+    }
+
+    // Whether it is a figure: zero held with power 0, or nine digits. It takes any digits and any power.
+    pub fn is_figure(self) -> bool
+        ensures { λ r. ⌜ r ≡ figure-test self ⌝ }
+    {
+        if self.digits == 0 {
+            return self.power == 0;
+        }
+        if self.digits < 100_000_000 {
+            return false;
+        }
+        self.digits < 1_000_000_000
     }
 
     // The whole number n, rounded down; exact up to nine digits.

@@ -1,0 +1,5 @@
+pub mod Pairs
+pub mod Combination
+pub mod Pinned
+pub mod Promise
+pub mod Internal
