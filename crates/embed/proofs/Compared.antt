@@ -12,50 +12,9 @@ use borrow.Author.Tests.{eqb-true, eq-eqb, ne-eqb, ltb-true, ltb-false, lt-ltb, 
 use Rattle.figure.specs.declared.Figure.{Figure}
 use Rattle.figure.specs.Rounding.{figure, IsFigure, is-zero, is-whole}
 use Rattle.figure.specs.Operations.{at-or-below}
-use Rattle.embed.specs.Exports.{power-zero, figure-test, Tested, compared, Compared}
-
--- ---- the test, as the code makes it
-
-power-tested : (p : ℤ) → SFits w32 p → eqb (ofZ w32 p) 0 ≡ power-zero p
-power-tested (pos n) f = refl
-power-tested (negsuc n) f = ne-eqb (ofZ w32 (negsuc n)) 0 (λ e. absurd (omega (arith, f .sfits, e)))
-
-module _ (d : ℕ) (p : ℤ) where
-  pub zero-digits : SFits w32 p → d ≡ 0 → eqb (ofZ w32 p) 0 ≡ figure-test (figure d p)
-  unfolding figure-test
-  zero-digits f e = power-tested p f ∙ rw (eq-eqb d 0 e, figure-test)
-
-  pub few-digits : (d ≡ 0 → ⊥) → d < 100000000 → false ≡ figure-test (figure d p)
-  unfolding figure-test
-  few-digits n l = rw (ne-eqb d 0 n, lt-ltb d 100000000 l, figure-test)
-
-  pub more-digits : (d ≡ 0 → ⊥) → 100000000 ≤ d → ltb d 1000000000 ≡ figure-test (figure d p)
-  unfolding figure-test
-  more-digits n l = rw (ne-eqb d 0 n, le-ltb d 100000000 l, figure-test)
-
--- ---- the test is right
-
-zero-power : (p : ℤ) → power-zero p ≡ true → p ≡ pos 0
-zero-power (pos n) h = ap pos (eqb-true n 0 h)
-zero-power (negsuc n) h = absurd (true≢false (sym h))
-
-pub tested : (f : Figure) → Tested f
-unfolding figure-test
-tested f = record { held = held (eqb d 0) (eqb-true d 0) (ltb d 100000000) (ltb-false d 100000000); failed = λ h i. other i h }
-  where
-    d : ℕ
-    d = f .digits
-
-    held : (z : Bool) → (z ≡ true → d ≡ 0) → (l : Bool) → (l ≡ false → 100000000 ≤ d)
-        → elim z [ true ↦ power-zero (f .power) | false ↦ elim l [ true ↦ false | false ↦ ltb d 1000000000 ] ] ≡ true → IsFigure 9 f
-    held true e l b h = is-zero (e refl) (zero-power (f .power) h)
-    held false e true b h = absurd (true≢false (sym h))
-    held false e false b h = is-whole (b refl) (ltb-true d 1000000000 h)
-
-    other : IsFigure 9 f → figure-test f ≡ false → ⊥
-    other (is-zero z p) h = true≢false (sym (rw (eq-eqb d 0 z, p, figure-test)) ∙ h)
-    other (is-whole l u) h =
-        true≢false (sym (lt-ltb d 1000000000 u) ∙ more-digits d (f .power) (λ e. absurd (omega (arith, l, e))) (omega (arith, l)) ∙ h)
+use Rattle.figure.specs.Tested.{figure-test}
+use Rattle.figure.proofs.Tested.{tested}
+use Rattle.embed.specs.Exports.{compared, Compared}
 
 -- ---- a power as the code hands it on, read back from its 32 bits
 

@@ -2,14 +2,13 @@
 -- definitions.
 use Prim.Native.Nat.{ℕ, _+_, _*_, _≤_}
 use mathlib.Core.Path.{_≡_}
-use mathlib.Core.Bool.{Bool, true, false}
+use mathlib.Core.Bool.{true, false}
 use mathlib.Core.List.{List, [], _∷_}
 use lib.ListN.{length, take}
-use lib.Dec.{eqb, ltb}
-use lib.IntN.{ℤ, pos, negsuc}
+use lib.IntN.{ℤ}
 use Rattle.figure.specs.declared.Figure.{Figure}
-use Rattle.figure.specs.Rounding.{IsFigure}
 use Rattle.figure.specs.Operations.{at-or-below}
+use Rattle.figure.specs.Tested.{figure-test, Tested}
 use Rattle.word.specs.Model.{one-if}
 use Rattle.tree.specs.Report.{Values, values, answer}
 use Rattle.tree.specs.Marks.{Marks, marks-with}
@@ -77,23 +76,6 @@ pub record Texted (before after : List ℕ) (budget : ℕ) (bytes : List ℕ) (n
 
 -- ---- figures compared
 
--- whether two numbers are a figure: zero held with power 0, or digits from 100,000,000 to 999,999,999
-abbrev pub power-zero : ℤ → Bool
-power-zero (pos n) = eqb n 0
-power-zero (negsuc n) = false
-
-unfoldable pub figure-test : Figure → Bool
-figure-test f =
-    elim (eqb (f .digits) 0) [
-      | true ↦ power-zero (f .power)
-      | false ↦ elim (ltb (f .digits) 100000000) [ true ↦ false | false ↦ ltb (f .digits) 1000000000 ]
-    ]
-
--- the test is right: it tells document 01's figures from what is none
-pub record Tested (f : Figure) : Type 0 where
-  pub held : figure-test f ≡ true → IsFigure 9 f
-  pub failed : figure-test f ≡ false → IsFigure 9 f → ⊥
-
 -- 1 where the first is at or below the second, 0 where it is above, 2 where one of them is no figure
 unfoldable pub compared : Figure → Figure → ℕ
 compared a b = elim (figure-test a) [ true ↦ elim (figure-test b) [ true ↦ elim (at-or-below a b) [ true ↦ 1 | false ↦ 0 ] | false ↦ 2 ] | false ↦ 2 ]
@@ -112,4 +94,4 @@ version-number major minor patch = major * 1000000 + minor * 1000 + patch
 
 -- this version
 abbrev pub version : ℕ
-version = version-number 1 4 0
+version = version-number 1 5 0

@@ -7,17 +7,21 @@ ghost use Rattle.word.specs.Model.{one-if};
 ghost use Rattle.tree.specs.Report as definition;
 ghost use Rattle.bounds.specs.Answers.{report-of, marks-of};
 ghost use Rattle.text.specs.Bytes.{most-bytes, Spelled};
-ghost use Rattle.embed.specs.Exports.{AnswerPut, Assessed, AssessedRows, Texted, Compared, numbers-of, powers-of, figure-test, version};
+ghost use Rattle.embed.specs.Exports.{AnswerPut, Assessed, AssessedRows, Texted, Compared, numbers-of, powers-of, version};
+ghost use Rattle.embed.specs.Subsystems.{Ored};
 ghost use Rattle.figure.specs.Rounding.{figure};
 use bounds::Answer;
 use bounds::Report;
 use bounds::unreliability;
 use bounds::unreliability_by_state;
 use figure::Figure;
+use orprob::probabilistic_or;
 use text::answers::words_text;
 use text::bytes::WORDS_SIZE;
 use text::bytes::words_of;
 use tree::Row;
+
+mod subsystems;
 
 fn put_powers(lower: i32, upper: i32, cut: i32, powers: &mut [i32; 3])
     ensures { λ _. ⌜ now (powers .exit) ≡ (lower ∷ upper ∷ cut ∷ []) ⌝ }
@@ -126,18 +130,6 @@ pub extern "C" fn bounds_words(bytes: &[u8], words: &mut [u32; WORDS_SIZE]) -> u
 // What `bounds_at_or_below` answers where one of the two is no figure.
 const NO_FIGURE: u64 = 2;
 
-fn is_figure(digits: u64, power: i32) -> bool
-    ensures { λ r. ⌜ r ≡ figure-test (figure digits power) ⌝ }
-{
-    if digits == 0 {
-        return power == 0;
-    }
-    if digits < 100_000_000 {
-        return false;
-    }
-    digits < 1_000_000_000
-}
-
 // How a figure, given by its digits and its power of ten, compares with a limit: 1 if it is at or below the limit, 0 if it is above, 2 if one of
 // the two is no figure. It takes any numbers.
 #[no_mangle]
@@ -149,18 +141,36 @@ pub extern "C" fn bounds_at_or_below(
 ) -> u64
     ensures { λ r. ⌜ Compared (figure digits power) (figure «limit_digits» «limit_power») r ⌝ }
 {
-    if !is_figure(digits, power) {
-        return NO_FIGURE;
-    }
-    if !is_figure(limit_digits, limit_power) {
-        return NO_FIGURE;
-    }
     let a = Figure { digits, power };
     let limit = Figure {
         digits: limit_digits,
         power: limit_power,
     };
+    if !a.is_figure() {
+        return NO_FIGURE;
+    }
+    if !limit.is_figure() {
+        return NO_FIGURE;
+    }
     if a.at_or_below(limit) { 1 } else { 0 }
+}
+
+// The probabilistic OR of `pairs` pairs of figures: 0, or the refusal's number, 17 or 18. `digits` and `powers` are those of lower 0, upper 0, lower 1,
+// upper 1 and so on; what stands there behind the pairs is of no account. Fills `or_values` with a refusal's place and the digits of the lower and the
+// upper figure, and `or_powers` with the figures' powers of ten; all but the place are zero in a refusal. It takes any numbers.
+#[no_mangle]
+pub extern "C" fn bounds_or(
+    digits: &[u64; 32],
+    powers: &[i32; 32],
+    pairs: usize,
+    or_values: &mut [u64; 3],
+    or_powers: &mut [i32; 2],
+) -> u64
+    ensures { λ r. ⌜ Ored (now (digits .entry)) (now (powers .entry)) pairs r (now («or_values» .exit)) (now («or_powers» .exit)) ⌝ }
+    ensures { λ _. ⌜ (now (digits .exit) ≡ now (digits .entry)) × (now (powers .exit) ≡ now (powers .entry)) ⌝ }
+{
+    let room = subsystems::pairs_given(digits, powers);
+    subsystems::put_combined(probabilistic_or(room, pairs), or_values, or_powers)
 }
 
 // The version of the library: major × 1,000,000 + minor × 1,000 + patch.
@@ -168,5 +178,5 @@ pub extern "C" fn bounds_at_or_below(
 pub extern "C" fn bounds_version() -> u64
     ensures { λ r. ⌜ r ≡ version ⌝ }
 {
-    1_004_000
+    1_005_000
 }

@@ -43,7 +43,7 @@ fn with_lower(s: Figure, p: Figure) -> Figure
 }
 
 // Both sides of the first `count` pairs.
-pub fn both_sides(pairs: [Pair; MOST_PAIRS], count: usize) -> Pair
+pub(crate) fn both_sides(pairs: [Pair; MOST_PAIRS], count: usize) -> Pair
     requires { ⌜ (count ≤ 16) × ((i : ℕ) → i < count → is-pair (pair-at (take count pairs) i) ≡ true) ⌝ }
     ensures { λ r. ⌜ r .lower ≡ definition.lower-or (take count pairs) ⌝ }
     ensures { λ r. ⌜ r .upper ≡ definition.upper-or (take count pairs) ⌝ }

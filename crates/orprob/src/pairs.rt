@@ -43,7 +43,7 @@ fn is_pair(x: Pair) -> bool
 }
 
 // The index of the first of the `count` pairs that is none, or `count`.
-pub fn first_wrong(pairs: [Pair; MOST_PAIRS], count: usize) -> usize
+pub(crate) fn first_wrong(pairs: [Pair; MOST_PAIRS], count: usize) -> usize
     requires { ⌜ count ≤ 16 ⌝ }
     ensures { λ r. ⌜ FirstWrong (take count pairs) count r ⌝ }
 {

@@ -4,14 +4,14 @@ use mathlib.Core.Path.{_≡_, refl, sym, ap, ap₂, _∙_, subst}
 use mathlib.Core.Bool.{Bool, true, false, not, _&&_, _||_}
 use mathlib.Core.List.{List, [], _∷_, _++_}
 use native.Mathlib.Omega.{arith}
-use native.Mathlib.Nat.{lt-of-not-le, add-suc, add-zero}
+use native.Mathlib.Nat.{lt-of-not-le, add-suc}
 use native.Mathlib.Decide.{decLe}
 use lib.Dec.{eqb}
 use lib.ListN.{length, getD, set, replicate, length-set, length-append, List·getD-append}
 use lib.Seq.{getD-set-same, getD-set-other, getD-append-seam}
 use borrow.Author.Tests.{eq-eqb, ne-eqb}
 use Rattle.word.specs.Model.{Transition, Net, Model, one-if, is-empty, any, numbers-from, is-named, only, exits}
-use Rattle.word.proofs.Members.{is-empty-length, only-append}
+use Rattle.word.proofs.Members.{is-empty-length, only-append, numbers-last}
 use Rattle.word.proofs.Tests.{flag-test}
 use Rattle.word.specs.Words.{to-field}
 use Rattle.model.specs.Index.{no-transition, transition, exit-count}
@@ -175,11 +175,6 @@ module _ {index targets before after : List ℕ} {n k : ℕ} (few : n < 1000) (s
       }
 
 -- ---- they are the definition's
-
-numbers-last : (n s : ℕ) → numbers-from (suc n) s ≡ numbers-from n s ++ ((s + n) ∷ [])
-unfolding numbers-from
-numbers-last zero s = ap (λ (x : ℕ). x ∷ []) (sym (add-zero s))
-numbers-last (suc n) s = ap (λ (l : List ℕ). s ∷ l) (numbers-last n (suc s) ∙ ap (λ (x : ℕ). numbers-from n (suc s) ++ (x ∷ [])) (omega arith))
 
 module _ {ws index : List ℕ} (indexes : Indexes ws index) {targets : List ℕ} (all : Targets (net-of ws .table) (length (net-of ws .table)) targets) where
   abbrev net : Net

@@ -1,13 +1,13 @@
--- Laws of `Each`, `only`, `any` and `is-empty` over any list. Assumes nothing.
-use Prim.Native.Nat.{ℕ, zero, suc, _≤_, _<_}
+-- Laws of `Each`, `only`, `any` and `is-empty` over any list, and of lists of numbers. Assumes nothing.
+use Prim.Native.Nat.{ℕ, zero, suc, _+_, _≤_, _<_}
 use mathlib.Core.Path.{_≡_, refl, sym, ap, _∙_, subst}
 use mathlib.Core.Bool.{Bool, true, false, _&&_, _||_, true≢false, false≢true}
 use mathlib.Core.List.{List, [], _∷_, _++_, map, List·Memᴰ, List·Memᴰ·head, List·Memᴰ·tail}
-use native.Mathlib.Nat.{le-of-suc-le-suc, not-suc-le-zero}
+use native.Mathlib.Nat.{le-of-suc-le-suc, not-suc-le-zero, add-zero}
 use native.Mathlib.Omega.{arith}
 use lib.ListN.{length, getD}
 use lib.Dec.{eqb, eqb·suc-zero}
-use Rattle.word.specs.Model.{only, any, is-empty}
+use Rattle.word.specs.Model.{only, any, is-empty, numbers-from}
 use Rattle.word.specs.Internal.Lists.{Each}
 
 -- neither of two tests holds
@@ -127,3 +127,9 @@ pub lookup-map : {A B : Type 0} (f : A → B) (xs : List A) (i : ℕ) (d : A) (e
 lookup-map f [] i d e h = absurd (not-suc-le-zero h)
 lookup-map f (x ∷ xs) zero d e h = refl
 lookup-map f (x ∷ xs) (suc i) d e h = lookup-map f xs i d e (le-of-suc-le-suc h)
+
+-- one number more stands behind the others
+pub numbers-last : (n s : ℕ) → numbers-from (suc n) s ≡ numbers-from n s ++ ((s + n) ∷ [])
+unfolding numbers-from
+numbers-last zero s = ap (λ (x : ℕ). x ∷ []) (sym (add-zero s))
+numbers-last (suc n) s = ap (λ (l : List ℕ). s ∷ l) (numbers-last n (suc s) ∙ ap (λ (x : ℕ). numbers-from n (suc s) ++ (x ∷ [])) (omega arith))

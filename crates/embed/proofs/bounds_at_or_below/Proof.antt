@@ -5,7 +5,7 @@ use borrow.Author.Needs.{needs}
 use borrow.Author.Tests.{not-true, not-false}
 use Rattle.figure.specs.Rounding.{figure}
 use Rattle.figure.specs.Operations.{at-or-below}
-use Rattle.embed.specs.Exports.{figure-test}
+use Rattle.figure.specs.Tested.{figure-test}
 use Rattle.embed.proofs.Compared.{told, told-figure, told-order, no-first, no-second, below, above}
 use Rattle.embed.proofs.bounds_at_or_below.Statement.{statement}
 use Rattle.embed.proofs.bounds_at_or_below.Tie as tie
