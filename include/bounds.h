@@ -3,14 +3,14 @@
  *
  * `tools/archive` makes the archive, target/lib/libbounds.a; `tools/install PREFIX` puts it, this header and a file for pkg-config in place. The
  * functions under "Exported" are proved: each promises its result as an equation with the definitions of documents 01 and 02, for all words, all
- * budgets and any rows. The inline functions of this header are not proved; tests/c tries them.
+ * budgets, any rows and any pairs of figures. The inline functions of this header are not proved; tests/c tries them.
  *
  * Which version. The archive must be of the header's own version, since another may write more numbers into a caller's buffers. Nothing but a
- * comparison at run time can tell: call bounds_version_agrees first, and nothing else where it says 0. bounds_ask and bounds_ask_rows look by
- * themselves.
+ * comparison at run time can tell: call bounds_version_agrees first, and nothing else where it says 0. bounds_ask, bounds_ask_rows and bounds_ask_or
+ * look by themselves.
  *
  * Who owns what. Every buffer is the caller's. The library keeps no pointer after a call, asks for no memory, makes no system call and uses no
- * floating point. Words and bytes that are lent by a pointer to const are only read. A pointer is never null, also where the count beside it
+ * floating point. Words, bytes and figures that are lent by a pointer to const are only read. A pointer is never null, also where the count beside it
  * is 0, and is aligned for its type; a buffer that is written overlaps no other. Nothing else is asked of a caller: any words, any counts that
  * the memory holds and any budget have an answer.
  *
@@ -36,7 +36,7 @@ extern "C" {
 
 /* ---- The version: major * 1,000,000 + minor * 1,000 + patch. CHANGELOG.md says what each brought. */
 
-#define BOUNDS_VERSION 1004000
+#define BOUNDS_VERSION 1005000
 #define BOUNDS_MAJOR(version) ((int)((version) / 1000000))
 #define BOUNDS_MINOR(version) ((int)((version) / 1000 % 1000))
 #define BOUNDS_PATCH(version) ((int)((version) % 1000))
@@ -46,6 +46,8 @@ extern "C" {
 #define BOUNDS_MOST_WORDS 16105      /* a model has at most so many words */
 #define BOUNDS_MOST_BUDGET 1000000   /* a budget is from 1 to this */
 #define BOUNDS_MOST_ROWS 1000        /* so many rows are enough for every model */
+#define BOUNDS_MOST_PAIRS 16         /* bounds_or combines at most so many pairs of figures */
+#define BOUNDS_OR_FIGURES (2 * BOUNDS_MOST_PAIRS) /* the digits, and the powers, that are lent to bounds_or */
 #define BOUNDS_WORDS_SIZE (BOUNDS_MOST_WORDS + 1) /* the words that bounds_words writes: one more than a model may have */
 #define BOUNDS_TEXT_SIZE 256         /* the bytes that bounds_text writes */
 #define BOUNDS_STACK 327680          /* the stack that a call needs at most, in bytes */
@@ -55,9 +57,10 @@ extern "C" {
  * ---- Refusals
  *
  * A refusal has a number and a place. For 3 to 9 and 15 the place is that of a word, counted from 0 (where the words ran out, it is their number);
- * for 10, 11 and 16 it is a state; for 14 it is the number of rows needed; for 1, 2 and 13 it is 0. Only bounds_assess_rows refuses by 14.
- * bounds_sentence has a sentence for each that a tool can show. Only 0 is a report: later versions add numbers, and one that a program does not
- * know is a refusal all the same.
+ * for 10, 11 and 16 it is a state; for 14 it is the number of rows needed; for 18 it is a pair, counted from 0; for 1, 2, 13 and 17 it is 0. Only
+ * bounds_assess_rows refuses by 14. Only bounds_or refuses by 17 and 18, and by no other. bounds_sentence has a sentence for each that a tool can
+ * show. Only 0 is a report, or of bounds_or the combined figures: later versions add numbers, and one that a program does not know is a refusal all
+ * the same.
  */
 enum bounds_refusal {
     BOUNDS_REPORTED = 0, /* no refusal */
@@ -67,6 +70,8 @@ enum bounds_refusal {
     BOUNDS_BUDGET_OUT_OF_RANGE = 2,
     BOUNDS_OVER_BUDGET = 13,
     BOUNDS_TOO_FEW_ROWS = 14,
+    BOUNDS_PAIR_COUNT_OUT_OF_RANGE = 17,
+    BOUNDS_PAIR_OUT_OF_RANGE = 18,
 
     /* By whoever wrote the words. */
     BOUNDS_WRONG_KIND = 3,
@@ -84,7 +89,7 @@ enum bounds_refusal {
     BOUNDS_NAMED_STATE_WITH_EXITS = 16
 };
 
-/* What bounds_ask and bounds_ask_rows answer where the archive is not of the header's version; no number of the documents'. */
+/* What bounds_ask, bounds_ask_rows and bounds_ask_or answer where the archive is not of the header's version; no number of the documents'. */
 #define BOUNDS_OTHER_VERSION UINT64_MAX
 
 /*
@@ -138,6 +143,20 @@ enum bounds_power {
     BOUNDS_POWERS
 };
 
+/* What bounds_or writes: where each number stands in `or_values` and in `or_powers`. */
+enum bounds_or_value {
+    BOUNDS_OR_PLACE,        /* a refusal's place; 0 beside combined figures */
+    BOUNDS_OR_LOWER_DIGITS, /* the combined figures; all 0 in a refusal */
+    BOUNDS_OR_UPPER_DIGITS,
+    BOUNDS_OR_VALUES /* how many there are */
+};
+
+enum bounds_or_power {
+    BOUNDS_OR_LOWER_POWER, /* all 0 in a refusal */
+    BOUNDS_OR_UPPER_POWER,
+    BOUNDS_OR_POWERS
+};
+
 /* ---- Exported */
 
 /* The version of the archive, as BOUNDS_VERSION has that of the header. */
@@ -182,6 +201,23 @@ size_t bounds_words(const uint8_t *bytes, size_t count, uint32_t words[BOUNDS_WO
  * double above it, would miss a requirement that it meets (likewise at 1E-7, 1E-11 and 1E-12).
  */
 uint64_t bounds_at_or_below(uint64_t digits, int32_t power, uint64_t limit_digits, int32_t limit_power);
+
+/*
+ * One figure for several subsystems, SURE's probabilistic OR: from a lower and an upper figure for each, a lower and an upper for the failure of at
+ * least one. `digits` and `powers` hold lower 0, upper 0, lower 1, upper 1 and so on; there are always BOUNDS_OR_FIGURES of each, and what stands
+ * behind the `pairs` pairs is of no account. Returns 0 for the combined figures, both at most 1: the lower is not above 1 minus the product of
+ * (1 - p) over the lowers, the upper not below the same over the uppers, one above 1 being taken as 1, and each lies within one part in 1,000,000
+ * of it.
+ *
+ * Returns 17 where `pairs` is 0, or 17 or more, whatever the pairs hold. Else returns 18, with the first such pair as its place, where one holds what
+ * is no figure, a power outside -2,000 to 2,000, a lower above 1 or a lower above its upper. Writes every number of `or_values` and `or_powers`,
+ * whatever they held, in a refusal too: there the place, and zeros for all the rest.
+ *
+ * It is the caller who knows that the subsystems fail independently of one another. The library cannot tell; where they do not, the probability may
+ * lie outside the combined figures.
+ */
+uint64_t bounds_or(const uint64_t digits[BOUNDS_OR_FIGURES], const int32_t powers[BOUNDS_OR_FIGURES], size_t pairs,
+                   uint64_t or_values[BOUNDS_OR_VALUES], int32_t or_powers[BOUNDS_OR_POWERS]);
 
 #ifdef __cplusplus
 }
@@ -265,6 +301,46 @@ static inline bounds_answer bounds_ask_rows(const uint32_t *words, size_t count,
     return bounds_answer_of(refusal, values, powers);
 }
 
+/* ---- Inline: one figure for several subsystems */
+
+/* The bounds on one subsystem's failure, as an answer has them. */
+typedef struct {
+    bounds_figure lower;
+    bounds_figure upper;
+} bounds_pair;
+
+typedef struct {
+    uint64_t refusal; /* 0 beside combined figures, else 17, 18, a number of a later version, or BOUNDS_OTHER_VERSION */
+    uint64_t place;
+    bounds_figure lower; /* the combined figures; zeros in a refusal */
+    bounds_figure upper;
+} bounds_or_answer;
+
+/*
+ * bounds_or on `count` pairs, of which none is read where there are more than BOUNDS_MOST_PAIRS. Looks at the version first: where it is another, the
+ * answer is refusal BOUNDS_OTHER_VERSION with zeros for all the rest.
+ */
+static inline bounds_or_answer bounds_ask_or(const bounds_pair *pairs, size_t count)
+{
+    uint64_t digits[BOUNDS_OR_FIGURES] = { 0 }, or_values[BOUNDS_OR_VALUES] = { 0 };
+    int32_t powers[BOUNDS_OR_FIGURES] = { 0 }, or_powers[BOUNDS_OR_POWERS] = { 0 };
+    bounds_or_answer answer;
+    size_t i;
+    for (i = 0; count <= BOUNDS_MOST_PAIRS && i < count; i++) {
+        digits[2 * i] = pairs[i].lower.digits;
+        powers[2 * i] = pairs[i].lower.power;
+        digits[2 * i + 1] = pairs[i].upper.digits;
+        powers[2 * i + 1] = pairs[i].upper.power;
+    }
+    answer.refusal = bounds_version_agrees() ? bounds_or(digits, powers, count, or_values, or_powers) : BOUNDS_OTHER_VERSION;
+    answer.place = or_values[BOUNDS_OR_PLACE];
+    answer.lower.digits = or_values[BOUNDS_OR_LOWER_DIGITS];
+    answer.lower.power = or_powers[BOUNDS_OR_LOWER_POWER];
+    answer.upper.digits = or_values[BOUNDS_OR_UPPER_DIGITS];
+    answer.upper.power = or_powers[BOUNDS_OR_UPPER_POWER];
+    return answer;
+}
+
 /* ---- Inline: sentences */
 
 /*
@@ -284,6 +360,10 @@ static inline const char *bounds_sentence(uint64_t refusal)
         return "The model has more steps than the budget allows.";
     case BOUNDS_TOO_FEW_ROWS:
         return "Fewer rows were lent than the PLACE that the model needs.";
+    case BOUNDS_PAIR_COUNT_OUT_OF_RANGE:
+        return "There must be from 1 to 16 pairs of figures.";
+    case BOUNDS_PAIR_OUT_OF_RANGE:
+        return "Pair PLACE holds what is no figure, a power of ten outside -2,000 to 2,000, or a lower above 1 or above its upper.";
     case BOUNDS_WRONG_KIND:
         return "Word PLACE is missing, or is not of the kind that belongs there.";
     case BOUNDS_BIT_SET:

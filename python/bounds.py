@@ -12,10 +12,13 @@
     >>> report, rows = library.assess_rows([0x11002001, 0x2000000A, 0x30000000, 0x41801000, 0x50001002, 0x60400001, 0xF0000000])
     >>> [(row.state, str(row.upper)) for row in rows]
     [(2, '1.00000000E-3')]
+    >>> lower, upper = library.probabilistic_or([(report.lower, report.upper)] * 2)  # two subsystems that fail independently, as the caller knows
+    >>> print(lower, upper)
+    1.99800099E-3 1.99900000E-3
 
 The library is loaded from libbounds.so, which `tools/archive` makes: from the folder that BOUNDS_LIBRARY names, else from the repository's
 target/lib. What it answers is proved; this module is not, and its tests compare it with the proved text. It fails closed: only 0 from the library is
-a report, whatever the module does not know is an exception, and a library of another version is not asked at all.
+a report or a pair of figures, whatever the module does not know is an exception, and a library of another version is not asked at all.
 """
 import ctypes
 import functools
@@ -29,10 +32,11 @@ from fractions import Fraction
 from pathlib import Path
 from typing import NamedTuple
 
-VERSION = 1004000  # major * 1,000,000 + minor * 1,000 + patch, as BOUNDS_VERSION in include/bounds.h
+VERSION = 1005000  # major * 1,000,000 + minor * 1,000 + patch, as BOUNDS_VERSION in include/bounds.h
 MOST_WORDS = 16105
 MOST_BUDGET = 1000000
 MOST_ROWS = 1000
+MOST_PAIRS = 16
 WORDS_SIZE = MOST_WORDS + 1  # what bounds_words writes at most
 TEXT_SIZE = 256
 
@@ -53,15 +57,18 @@ SENTENCES = {
     14: "Fewer rows were lent than the PLACE that the model needs.",
     15: "The state named by word PLACE is not greater than the one named before it.",
     16: "State PLACE is named as the generator's and has exits.",
+    17: "There must be from 1 to 16 pairs of figures.",
+    18: "Pair PLACE holds what is no figure, a power of ten outside -2,000 to 2,000, or a lower above 1 or above its upper.",
 }
 
 
 class Error(Exception):
-    """Why there is no report."""
+    """Why there is no report, or why figures are not combined."""
 
 
 class Refused(Error):
-    """The library turned the model away. A place is that of a word, counted from 0, or a state (10, 11, 16), or the number of rows needed (14)."""
+    """The library turned the model, or the pairs of figures, away. A place is that of a word, counted from 0, or a state (10, 11, 16), or the number of
+    rows needed (14), or a pair, counted from 0 (18)."""
 
     def __init__(self, number, place):
         self.number, self.place = number, place
@@ -70,7 +77,7 @@ class Refused(Error):
 
 
 class UnknownRefusal(Error):
-    """The library turned the model away by a number that this module does not know."""
+    """The library turned them away by a number that this module does not know, or does not know of this call."""
 
     def __init__(self, number, place):
         self.number, self.place = number, place
@@ -181,6 +188,13 @@ class Row(NamedTuple):
     upper: Figure
 
 
+class Pair(NamedTuple):
+    """The bounds on one subsystem's failure, or on the failure of at least one of several."""
+
+    lower: Figure
+    upper: Figure
+
+
 class _LentFigure(ctypes.Structure):
     _fields_ = [("digits", ctypes.c_uint64), ("power", ctypes.c_int32)]
 
@@ -195,6 +209,7 @@ class Library:
     """The shared library. It keeps no state: any number of threads may call at once."""
 
     _VALUES, _POWERS = 9, 3
+    _OR_VALUES, _OR_POWERS = 3, 2
     _CALLS = {
         "bounds_version": (ctypes.c_uint64, []),
         "bounds_assess": (ctypes.c_uint64, [ctypes.c_void_p, ctypes.c_size_t, ctypes.c_uint64, ctypes.c_void_p, ctypes.c_void_p]),
@@ -205,6 +220,7 @@ class Library:
         "bounds_text": (ctypes.c_size_t, [ctypes.c_void_p, ctypes.c_size_t, ctypes.c_uint64, ctypes.c_void_p]),
         "bounds_words": (ctypes.c_size_t, [ctypes.c_void_p, ctypes.c_size_t, ctypes.c_void_p]),
         "bounds_at_or_below": (ctypes.c_uint64, [ctypes.c_uint64, ctypes.c_int32, ctypes.c_uint64, ctypes.c_int32]),
+        "bounds_or": (ctypes.c_uint64, [ctypes.c_void_p, ctypes.c_void_p, ctypes.c_size_t, ctypes.c_void_p, ctypes.c_void_p]),
     }
 
     def __init__(self, path=None):
@@ -266,6 +282,24 @@ class Library:
             raise Error(f"the library answered {answer}, which is no order of two figures")
         return answer == 1
 
+    def probabilistic_or(self, pairs):
+        """The Pair of bounds on the failure of at least one of several subsystems, from (lower, upper), two figures, of each: 1 minus the product of
+        (1 - p), over the lowers rounded down and over the uppers rounded up; an upper above 1 is taken as 1. That the subsystems fail independently, the
+        caller knows; the library cannot tell. Raises Refused: 17 for no pair or more than 16, 18 for a pair that is out of range."""
+        return self._combined([_numbers(pair) for pair in pairs])
+
+    def _combined(self, numbers):
+        """The same of two (digits, power) for each, whether they are figures or not. None of them is read where there are too many."""
+        count, read = len(numbers), numbers if len(numbers) <= MOST_PAIRS else []
+        digits, powers = (ctypes.c_uint64 * (2 * MOST_PAIRS))(), (ctypes.c_int32 * (2 * MOST_PAIRS))()
+        for at, figure in enumerate(figure for pair in read for figure in pair):
+            digits[at], powers[at] = figure
+        values, or_powers = (ctypes.c_uint64 * self._OR_VALUES)(), (ctypes.c_int32 * self._OR_POWERS)()
+        # nothing that the library writes, so that a buffer that it left alone is no answer
+        ctypes.memset(values, 0xFF, ctypes.sizeof(values))
+        number = self._library.bounds_or(digits, powers, count, values, or_powers)
+        return _pair(number, values, or_powers, count)
+
 
 def _report(number, values, powers):
     """What the library's numbers say. Only 0 is a report."""
@@ -278,6 +312,32 @@ def _report(number, values, powers):
     if any(mark not in (0, 1) for mark in marks):
         raise Error(f"the library answered with a mark that is neither 0 nor 1: {marks}")
     return Report(*figures, deaths, cuts, steps, *(mark == 1 for mark in marks))
+
+
+def _numbers(pair):
+    """A pair's digits and powers."""
+    lower, upper = pair
+    if not isinstance(lower, Figure) or not isinstance(upper, Figure):
+        raise TypeError(f"a pair of figures is expected, not {pair!r}")
+    return (lower.digits, lower.power), (upper.digits, upper.power)
+
+
+def _pair(number, values, powers, count):
+    """What the library's numbers say of so many pairs. Only 0 has figures, and only of as many pairs as it takes."""
+    place, *digits = values
+    if number in (17, 18):
+        if place >= (count if number == 18 else 1):
+            raise Error(f"the library answered with refusal {number} at {place}, a place of no pair")
+        raise Refused(number, place)
+    if number != 0:
+        raise UnknownRefusal(number, place)
+    try:
+        pair = Pair(*(Figure(*figure) for figure in zip(digits, powers)))
+    except ValueError as error:
+        raise Error(f"the library answered with a pair that is none: {error}") from None
+    if not 1 <= count <= MOST_PAIRS or place != 0 or not pair.lower <= pair.upper <= Figure(100000000, -8):
+        raise Error(f"the library answered with {pair.lower} and {pair.upper} at {place}, which is no answer to {count} pairs")
+    return pair
 
 
 def _filled(number, rows):

@@ -32,6 +32,14 @@ def answered(library, words, budget):
         return f"refused {refused.number} at {refused.place}\n"
 
 
+def combined(call):
+    try:
+        pair = call()
+        return f"lower {pair.lower}\nupper {pair.upper}"
+    except bounds.Refused as refused:
+        return f"refused {refused.number} at {refused.place}"
+
+
 class Calls(unittest.TestCase):
     library = bounds.Library()
 
@@ -96,7 +104,7 @@ class Calls(unittest.TestCase):
     def test_numbers(self):
         """Only 0 is a report, and a number that is not known is an error of its own."""
         numbers = [5, 999500000, 100000000, 0, 1, 0, 1, 1, 1]
-        known = {*range(1, 12), 13, 14, 15, 16}
+        known = {*range(1, 12), *range(13, 19)}
         for number in [*range(1, 65), 2**64 - 1]:
             with self.assertRaises(bounds.Refused if number in known else bounds.UnknownRefusal) as raised:
                 bounds._report(number, numbers, [-12, -11, 0])
@@ -161,6 +169,78 @@ class Calls(unittest.TestCase):
         for thread in work:
             thread.join()
         self.assertEqual(found, [expected] * 8)
+
+    def test_expected_pairs(self):
+        """A line is a name, the pairs (`.` for none), each LOWER:UPPER of digits, e and a power, and the answer."""
+        lines = (DATA / "or.txt").read_text().splitlines()
+        for line in lines:
+            name, spelled, expected = line.split(" ")
+            pairs = [[tuple(map(int, one.split("e"))) for one in pair.split(":")] for pair in spelled.strip(".").split(",") if pair]
+            expected = expected.replace("|", "\n").replace("=", " ")
+            self.assertEqual(combined(lambda: self.library._combined(pairs)), expected, name)
+            try:
+                figures = [tuple(bounds.Figure(*one) for one in pair) for pair in pairs]
+            except ValueError:
+                # what is no figure does not get so far
+                self.assertRegex(expected, "^refused 1[78] at ", name)
+            else:
+                self.assertEqual(combined(lambda: self.library.probabilistic_or(figures)), expected, name)
+        self.assertGreaterEqual(len(lines), 55)
+
+    def test_pairs(self):
+        half, one = bounds.Figure.parse("0.5"), bounds.Figure.parse("1")
+        pair = self.library.probabilistic_or((lower, upper) for lower, upper in [(half, one), (half, half)])
+        self.assertEqual(pair, bounds.Pair(bounds.Figure.parse("0.75"), one))
+        self.assertEqual((pair.lower, pair.upper), tuple(pair))
+        self.assertEqual(self.library.probabilistic_or([pair]), pair)
+        for count in (0, 17, 18, 255, 256, 272, 65552):
+            for given in ((half, one), (one, half)):
+                with self.assertRaises(bounds.Refused) as raised:
+                    self.library.probabilistic_or([given] * count)
+                self.assertEqual(str(raised.exception), "refused 17 at 0: There must be from 1 to 16 pairs of figures.")
+        for place in range(16):
+            with self.assertRaises(bounds.Refused) as raised:
+                self.library.probabilistic_or([(half, one)] * place + [(one, half)] * (16 - place))
+            self.assertEqual((raised.exception.number, raised.exception.place), (18, place))
+        self.assertTrue(str(raised.exception).startswith("refused 18 at 15: Pair 15 holds what is no figure, "))
+
+    def test_what_is_no_pair(self):
+        half = bounds.Figure.parse("0.5")
+        for pairs in (5, half, [half], [(half, 0.5)], [("0.5", half)], [(half, None)]):
+            with self.assertRaises(TypeError, msg=pairs):
+                self.library.probabilistic_or(pairs)
+        for pairs in ([(half,)], [(half, half, half)]):
+            with self.assertRaises(ValueError, msg=pairs):
+                self.library.probabilistic_or(pairs)
+
+    def test_numbers_of_pairs(self):
+        """Only 0 has figures, only 17 and 18 are refusals, each with a place that it can have."""
+        self.assertEqual(str(bounds._pair(0, [0, 500000000, 100000000], [-9, -8], 2).lower), "5.00000000E-1")
+        for number in [*range(1, 65), 2**64 - 1]:
+            with self.assertRaises(bounds.Refused if number in (17, 18) else bounds.UnknownRefusal) as raised:
+                bounds._pair(number, [0, 500000000, 100000000], [-9, -8], 2)
+            self.assertEqual((raised.exception.number, raised.exception.place), (number, 0))
+        for number, place, count in ((17, 1, 2), (17, 2**64 - 1, 0), (18, 2, 2), (18, 0, 0), (18, 16, 16), (18, 2**64 - 1, 17)):
+            with self.assertRaises(bounds.Error) as raised:
+                bounds._pair(number, [place, 0, 0], [0, 0], count)
+            self.assertIs(type(raised.exception), bounds.Error)
+
+    def test_what_is_no_answer(self):
+        """Digits that are no figure, a lower above its upper, an upper above 1, a place, or figures for a number of pairs that is refused."""
+        for values, powers, count in (
+            ([0, 7, 100000000], [-9, -8], 2),
+            ([0, 500000000, 0], [-9, 1], 2),
+            ([0, 500000000, 1000000000], [-9, -9], 2),
+            ([0, 500000001, 500000000], [-9, -9], 2),
+            ([0, 500000000, 100000001], [-9, -8], 2),
+            ([1, 500000000, 100000000], [-9, -8], 2),
+            ([0, 500000000, 100000000], [-9, -8], 0),
+            ([0, 500000000, 100000000], [-9, -8], 17),
+            ([2**64 - 1] * 3, [0, 0], 2),
+        ):
+            with self.assertRaises(bounds.Error) as raised:
+                bounds._pair(0, values, powers, count)
+            self.assertIs(type(raised.exception), bounds.Error)
 
     def test_order(self):
         rising = [bounds.Figure(0, 0)]

@@ -1,14 +1,17 @@
 #!/bin/sh
-# Turns each rounding of steps.rs, walk.rs and bounds.rs the other way, one at a time, in a copy of
-# the sources, and shows which model betrays it. With --marks each of them rounds as it should but
-# tells that nothing was lost. Takes some minutes.
+# Turns each rounding of steps.rs, walk.rs, bounds.rs and orprob.rs the other way, one at a time, in
+# a copy of the sources, and shows which model or list of pairs betrays it. With --marks each of the
+# first three files' rounds as it should but tells that nothing was lost; those of orprob.rs have no
+# mark that is printed. Takes some minutes.
 # Usage: ./roundings.sh [--marks] [SEED [COUNT]]
 set -u
 cd "$(dirname "$0")" || exit 2
 cargo build --release --offline --quiet || exit 2
 how=turned
+files="steps walk bounds orprob"
 if [ "${1:-}" = --marks ]; then
     how=silent
+    files="steps walk bounds"
     shift
 fi
 seed=${1:-1}
@@ -62,13 +65,19 @@ turn() {
         }' "$1"
 }
 
-for file in steps walk bounds; do
+for file in $files; do
+    comparer=compare
+    program=stream
+    if [ "$file" = orprob ]; then
+        comparer=compare-or
+        program=or-stream
+    fi
     number=1
     while turn "src/$file.rs" "$number" >"$copy/src/$file.rs" 2>"$copy/place"; do
         place="$file.rs:$(cat "$copy/place")"
-        (cd "$copy" && cargo build --release --offline --quiet --bin stream 2>/dev/null)
-        found=$(target/release/compare "$copy/target/release/stream" --seed "$seed" \
-            --count "$count" | grep '^model:' || echo "hidden in $count models")
+        (cd "$copy" && cargo build --release --offline --quiet --bin "$program" 2>/dev/null)
+        found=$("target/release/$comparer" "$copy/target/release/$program" --seed "$seed" \
+            --count "$count" | grep -E '^(model|list):' || echo "hidden in $count cases")
         printf '%s, rounding %s\n    %s\n' "$place" "$number" "$found"
         number=$((number + 1))
     done

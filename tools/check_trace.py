@@ -4,11 +4,11 @@ named with it. Each must-fail edit is named by the trace or the claims.
     python3 tools/check_trace.py                 files and names
     python3 tools/check_trace.py DOCUMENT ..     also each sentence of the trace, word for word, and that none of the documents is left out
 
-In a cell of the trace's and the glossary's tables and in an item of the claims that begins "Says so", "Refused edits" or "A model" ("Models") "that would
+In a cell of the trace's and the glossary's tables and in an item of the claims that begins "Says so", "Refused edits" or "A model" ("Models", "Pairs") "that would
 answer otherwise", what stands in backticks is a file (it has a slash and a suffix, or ends in stdin or stdout) or a name, which belongs to the file before it
 in that cell or item. Of all else in the claims and the
 architecture only files are looked at, but for those with a word such as NAME in their path. Files are below crates/ or else below the repository's root.
-In the trace's column of vectors a name without a file is a model of reference/tests/data/models.txt, papers.txt or rows.txt, and one letter is one of
+In the trace's column of vectors a name without a file is a case of reference/tests/data/models.txt, papers.txt, rows.txt or or.txt, and one letter is one of
 document 01's models A to L, as the list in crates/tree/specs/Marked.antt has it. A cell that holds only a dash is empty.
 
 The rows below a heading "Document 02, Item N" of the trace have the sentences of that item, all other rows those of document 01. A document whose paragraphs
@@ -21,8 +21,9 @@ from pathlib import Path
 
 ROOT = Path(__file__).resolve().parent.parent
 TRACE, CLAIMS, GLOSSARY, ARCHITECTURE = "docs/TRACE.md", "docs/CLAIMS.md", "docs/GLOSSARY.md", "docs/ARCHITECTURE.md"
-ITEMS = ("- Says so:", "- Refused edits:", "- A model that would answer otherwise:", "- Models that would answer otherwise:")
-MODELS = ["reference/tests/data/models.txt", "reference/tests/data/papers.txt", "reference/tests/data/rows.txt"]
+ITEMS = ("- Says so:", "- Refused edits:", "- A model that would answer otherwise:", "- Models that would answer otherwise:",
+         "- Pairs that would answer otherwise:")
+MODELS = ["reference/tests/data/models.txt", "reference/tests/data/papers.txt", "reference/tests/data/rows.txt", "reference/tests/data/or.txt"]
 MARKED = "tree/specs/Marked.antt"
 EMPTY = "—"
 HEADING = re.compile(r"## Document 02, Item (\d+)\b")

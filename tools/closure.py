@@ -1,4 +1,4 @@
-"""Which pages of specs/ the public contracts rest on: what a reader has to compare with document 01.
+"""Which pages of specs/ the public contracts rest on: what a reader has to compare with the documents.
 
     python3 tools/closure.py            the number of pages and of their lines, and their list
     python3 tools/closure.py --each     the same for each public function apart
@@ -14,7 +14,7 @@ from pathlib import Path
 ROOT = Path(__file__).resolve().parent.parent
 CRATES = ROOT / "crates"
 # the crates whose public functions makers call
-OPEN = ["bounds", "text", "embed"]
+OPEN = ["orprob", "bounds", "text", "embed"]
 MODULE = re.compile(r"Rattle·(\w+)(?:·\w+)?\.(specs|proofs)\.(.+)")
 USE = re.compile(r"^(?:pub )?(ghost )?use ([^\s;{]+?)(?:\.\{([^}]*)\})?(?: as (\S+?))?;?\s*$", re.M)
 FUNCTION = re.compile(r"^[ \t]*pub (?:extern \"C\" )?fn (\w+)", re.M)

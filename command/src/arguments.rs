@@ -8,6 +8,8 @@ pub struct Takes {
     pub flags: &'static [&'static str],
     pub values: &'static [&'static str],
     pub files: &'static [&'static str],
+    /// Which of the options with a value, and whether the last of the files, may stand any number of times.
+    pub repeated: &'static [&'static str],
 }
 
 /// What a subcommand was given.
@@ -39,18 +41,25 @@ impl Takes {
                 let argument = shown(argument);
                 return Err(Failure::new(format!("{argument} is no option; {}", self.known())));
             };
-            if arguments.value(name).is_some() {
+            if arguments.value(name).is_some() && !self.repeated.contains(&name) {
                 return Err(Failure::new(format!("--{name} stands twice")));
             }
             arguments.options.push((name, value));
         }
-        if arguments.files.len() != self.files.len() {
+        if !self.takes_so_many(arguments.files.len()) {
             let (expected, found) = (list(self.files), list(&arguments.files));
             return Err(Failure::new(format!(
                 "expected {expected} beside the options, not {found}"
             )));
         }
         Ok(arguments)
+    }
+
+    fn takes_so_many(&self, files: usize) -> bool {
+        match self.files.split_last() {
+            Some((last, others)) if self.repeated.contains(last) => files >= others.len(),
+            _ => files == self.files.len(),
+        }
     }
 
     fn known(&self) -> String {
@@ -82,6 +91,12 @@ impl<'a> Arguments<'a> {
         self.options.iter().find(|(given, _)| *given == name).map(|(_, value)| *value)
     }
 
+    /// The values of an option that may stand any number of times, in their order.
+    pub fn values(&self, name: &str) -> Vec<&'a str> {
+        let given = self.options.iter().filter(|(given, _)| *given == name);
+        given.map(|(_, value)| *value).collect()
+    }
+
     /// The budget, or 1,000,000. The library says which are allowed.
     pub fn budget(&self) -> Result<u64, Failure> {
         let Some(spelled) = self.value("budget") else {
@@ -109,7 +124,14 @@ pub fn whole_number(spelled: &str) -> Option<u64> {
 mod tests {
     use super::*;
 
-    const TAKES: Takes = Takes { flags: &["json"], values: &["budget"], files: &["FILE"] };
+    const TAKES: Takes =
+        Takes { flags: &["json"], values: &["budget"], files: &["FILE"], repeated: &[] };
+    const MANY: Takes = Takes {
+        flags: &["json"],
+        values: &["pair", "budget"],
+        files: &["OUT", "FILE"],
+        repeated: &["pair", "FILE"],
+    };
 
     #[test]
     fn options_and_files() -> Result<(), Failure> {
@@ -118,6 +140,26 @@ mod tests {
         let a = TAKES.parse(&["-", "--budget=8"])?;
         assert_eq!((a.files[0], a.flag("json"), a.budget()?), ("-", false, 8));
         assert_eq!(TAKES.parse(&["a"])?.budget()?, 1_000_000);
+        Ok(())
+    }
+
+    /// What may stand any number of times keeps its order; the rest stands once.
+    #[test]
+    fn any_number_of_times() -> Result<(), Failure> {
+        let a = MANY.parse(&["o", "--pair", "b", "--json", "x", "--pair=a", "y", "--pair", "b"])?;
+        assert_eq!((a.files.as_slice(), a.flag("json")), (&["o", "x", "y"][..], true));
+        assert_eq!(a.values("pair"), ["b", "a", "b"]);
+        let a = MANY.parse(&["o"])?;
+        assert_eq!((a.files.as_slice(), a.values("pair").len()), (&["o"][..], 0));
+        for given in [
+            &[][..],
+            &["--pair", "a"],
+            &["o", "--json", "--json"],
+            &["o", "--budget", "1", "--pair", "a", "--budget", "2"],
+            &["o", "--pair"],
+        ] {
+            assert!(MANY.parse(given).is_err(), "{given:?}");
+        }
         Ok(())
     }
 

@@ -40,34 +40,78 @@ fn names(word: u32, state: u64) -> bool {
     word >> 28 == kind::PRUNED_STATE && u64::from(word & 0xFFF) == state
 }
 
-/// Writes the refusal, for a reader or for a program.
+/// Writes the refusal of a model, for a reader or for a program.
 pub fn refused(model: &Model, refusal: Refusal, as_json: bool, out: &mut dyn Write) -> Done {
+    write(refusal, None, &of_model(model, refusal), as_json, out)
+}
+
+/// The same of one model among several: its file is named first.
+pub fn refused_among(model: &Model, refusal: Refusal, as_json: bool, out: &mut dyn Write) -> Done {
+    write(refusal, Some(&model.file), &of_model(model, refusal), as_json, out)
+}
+
+/// The refusal of pairs of figures; a pair is shown as it was given.
+pub fn refused_pairs(
+    given: &[String],
+    refusal: Refusal,
+    as_json: bool,
+    out: &mut dyn Write,
+) -> Done {
+    let at = usize::try_from(refusal.place).ok();
+    let pair = at.filter(|_| refusal.reason.place() == Place::Pair).and_then(|at| given.get(at));
+    let object = |pair: &String| json::object(&[("text", json::string(pair))]);
+    let named = pair.map(|pair| Named { line: pair.clone(), object: object(pair) });
+    write(refusal, None, named.as_slice(), as_json, out)
+}
+
+/// What a refusal speaks of, as a line to be read and as an object of JSON.
+struct Named {
+    line: String,
+    object: String,
+}
+
+fn of_model(model: &Model, refusal: Refusal) -> Vec<Named> {
+    let named = |spot: &Spot| Named {
+        line: format!("{}: {}", model.place(spot), spot.text()),
+        object: spot_object(spot),
+    };
+    spots(model, refusal).iter().map(named).collect()
+}
+
+fn write(
+    refusal: Refusal,
+    file: Option<&str>,
+    named: &[Named],
+    as_json: bool,
+    out: &mut dyn Write,
+) -> Done {
     let explained = if as_json { object } else { text };
-    writeln!(out, "{}", explained(model, refusal))?;
+    writeln!(out, "{}", explained(refusal, file, named))?;
     Ok(Status::Refused)
 }
 
 /// Lines to be read.
-pub fn text(model: &Model, refusal: Refusal) -> String {
-    let mut lines = vec![refusal.to_string(), refusal.sentence().to_string()];
-    for spot in spots(model, refusal) {
-        lines.push(format!("  {}: {}", model.place(&spot), spot.text()));
-    }
+fn text(refusal: Refusal, file: Option<&str>, named: &[Named]) -> String {
+    let file = file.map_or(String::new(), |file| format!("{file}: "));
+    let mut lines = vec![format!("{file}{refusal}"), refusal.sentence().to_string()];
+    lines.extend(named.iter().map(|named| format!("  {}", named.line)));
     lines.push(format!("Look at: {}", refusal.reason.advice()));
     lines.join("\n")
 }
 
 /// The same for programs.
-pub fn object(model: &Model, refusal: Refusal) -> String {
-    let spots: Vec<String> = spots(model, refusal).iter().map(spot_object).collect();
-    json::object(&[
-        ("answer", json::string("refused")),
+fn object(refusal: Refusal, file: Option<&str>, named: &[Named]) -> String {
+    let spots: Vec<String> = named.iter().map(|named| named.object.clone()).collect();
+    let mut fields = vec![("answer", json::string("refused"))];
+    fields.extend(file.map(|file| ("file", json::string(file))));
+    fields.extend([
         ("number", refusal.reason.number().to_string()),
         ("place", refusal.place.to_string()),
         ("sentence", json::string(&refusal.sentence().to_string())),
         ("spots", json::array(&spots)),
         ("advice", json::string(refusal.reason.advice())),
-    ])
+    ]);
+    json::object(&fields)
 }
 
 /// The line, the word's place, or both where the file has words on lines; and what stands there.

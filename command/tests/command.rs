@@ -1,35 +1,12 @@
 //! The command as users run it: what it prints, and its exit status.
 
-use std::error::Error;
-use std::io::Write;
-use std::process::{Command, Output, Stdio};
+mod common;
 
-type Tested = Result<(), Box<dyn Error>>;
+use common::{run, said, Tested, DIGITS_A};
+use std::process::Command;
 
 const REPORT_A: &str =
     "lower 9.99500000E-4\nupper 1.00000000E-3\ncut 0\ndeaths 1\ncuts 0\nsteps 1\nexact 11\n";
-const DIGITS_A: &str = "11002001 2000000A 30000000 41801000 50001002 60400001 F0000000";
-
-/// Runs the command in the root of the repository.
-fn run(arguments: &[&str], input: &[u8]) -> Result<Output, Box<dyn Error>> {
-    let mut child = Command::new(env!("CARGO_BIN_EXE_bounds"))
-        .args(arguments)
-        .current_dir(concat!(env!("CARGO_MANIFEST_DIR"), "/.."))
-        .stdin(Stdio::piped())
-        .stdout(Stdio::piped())
-        .stderr(Stdio::piped())
-        .spawn()?;
-    // a command that ends before it has read everything closes the pipe
-    let _ = child.stdin.take().ok_or("no input")?.write_all(input);
-    Ok(child.wait_with_output()?)
-}
-
-/// The exit status, standard output and standard error.
-fn said(arguments: &[&str], input: &str) -> Result<(i32, String, String), Box<dyn Error>> {
-    let output = run(arguments, input.as_bytes())?;
-    let status = output.status.code().ok_or("no status")?;
-    Ok((status, String::from_utf8(output.stdout)?, String::from_utf8(output.stderr)?))
-}
 
 #[test]
 fn reports() -> Tested {
@@ -400,7 +377,7 @@ fn help_and_version() -> Tested {
     let (status, usage, _) = said(&["--help"], "")?;
     assert_eq!(status, 0);
     assert!(usage.ends_with(", 2 usage or input, 3 upper is above --at-most.\n"), "{usage}");
-    for name in ["report", "rows", "sweep", "words", "text", "line", "answers"] {
+    for name in ["report", "rows", "or", "sweep", "words", "text", "line", "answers"] {
         assert!(usage.contains(&format!("  bounds {name}")), "{name}");
         let (status, help, _) = said(&[name, "--help"], "")?;
         assert_eq!(status, 0);

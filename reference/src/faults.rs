@@ -1,8 +1,10 @@
 //! Faults that can be planted on purpose, to show that the comparer finds them.
 //!
-//! Nothing is planted unless a program asks for it by [`plant`]; only `stream --fault NAME` does.
+//! Nothing is planted unless a program asks for it by [`plant`]; only `stream --fault NAME` and
+//! `or-stream --fault NAME` do.
 
 use std::cell::Cell;
+use std::process::ExitCode;
 
 #[derive(Clone, Copy, Debug, PartialEq, Eq)]
 pub enum Fault {
@@ -72,10 +74,43 @@ pub enum Fault {
     HighestWithExits,
     NamedAfterTransition,
     BitTwelveIgnored,
+    LowerDifferenceUp,
+    LowerProductUp,
+    LowerSumUp,
+    UpperDifferenceDown,
+    UpperProductDown,
+    UpperSumDown,
+    AboveOneKept,
+    PlainSum,
+    LongProduct,
+    ByComplements,
+    PairsReversed,
+    LastPairLeftOut,
+    NoPairLetThrough,
+    SeventeenthPair,
+    SixteenRefused,
+    PlaceOfPairs,
+    PairsTestedFirst,
+    LastBadPair,
+    IndexFromOne,
+    ZeroWithPower,
+    EightDigits,
+    TenDigits,
+    PowerOneFurther,
+    PowerAsPrinted,
+    TakenAsOneFirst,
+    LowerAboveOne,
+    LowerOneRefused,
+    LowerAboveUpper,
+    EqualRefused,
+    UpperAboveOneRefused,
 }
 
-/// Every fault with its name and what it does.
-pub const ALL: [(Fault, &str, &str); 66] = [
+/// A fault with its name and what it does.
+pub type Known = (Fault, &'static str, &'static str);
+
+/// The faults of reports, which `stream` can plant.
+pub const OF_REPORTS: [Known; 66] = [
     (Fault::UpperRoundsDown, "upper-rounds-down", "U × rate rounds down in class 1"),
     (Fault::EscapeRoundsDown, "escape-rounds-down", "the sum E rounds down"),
     (Fault::LowerRoundsUp, "lower-rounds-up", "the last product of a lower rounds up"),
@@ -152,6 +187,40 @@ pub const ALL: [(Fault, &str, &str); 66] = [
     (Fault::BitTwelveIgnored, "bit-12-ignored", "bit 12 of a word that names a state may be set"),
 ];
 
+/// The faults of Item 4 of document 02, which `or-stream` can plant.
+pub const OF_OR: [Known; 30] = [
+    (Fault::LowerDifferenceUp, "lower-difference-up", "a lower's 1 − s rounds up"),
+    (Fault::LowerProductUp, "lower-product-up", "a lower's p × (1 − s) rounds up"),
+    (Fault::LowerSumUp, "lower-sum-up", "a lower's sum rounds up"),
+    (Fault::UpperDifferenceDown, "upper-difference-down", "an upper's 1 − s rounds down"),
+    (Fault::UpperProductDown, "upper-product-down", "an upper's p × (1 − s) rounds down"),
+    (Fault::UpperSumDown, "upper-sum-down", "an upper's sum rounds down"),
+    (Fault::AboveOneKept, "above-one-kept", "an s above 1 stays as it is"),
+    (Fault::PlainSum, "plain-sum", "s becomes s + p"),
+    (Fault::LongProduct, "long-product", "the product keeps eighteen digits"),
+    (Fault::ByComplements, "by-complements", "the product of (1 − p) first, then 1 minus it"),
+    (Fault::PairsReversed, "pairs-reversed", "the pairs are taken from the last"),
+    (Fault::LastPairLeftOut, "last-pair-left-out", "the last of several pairs is left out"),
+    (Fault::NoPairLetThrough, "no-pair-let-through", "no pair at all is answered by zeros"),
+    (Fault::SeventeenthPair, "seventeenth-pair", "of more than 16 pairs the first 16 are used"),
+    (Fault::SixteenRefused, "sixteen-refused", "17 at a 16th pair"),
+    (Fault::PlaceOfPairs, "place-of-pairs", "the place of 17 is the number of pairs"),
+    (Fault::PairsTestedFirst, "pairs-tested-first", "18 comes before 17"),
+    (Fault::LastBadPair, "last-bad-pair", "the place of 18 is the last such pair's"),
+    (Fault::IndexFromOne, "index-from-one", "the place of 18 counts from 1"),
+    (Fault::ZeroWithPower, "zero-with-power", "a zero with any power is a figure"),
+    (Fault::EightDigits, "eight-digits", "fewer than nine digits are a figure"),
+    (Fault::TenDigits, "ten-digits", "more than nine digits are rounded to a figure"),
+    (Fault::PowerOneFurther, "power-one-further", "powers go from −2,001 to 2,001"),
+    (Fault::PowerAsPrinted, "power-as-printed", "the power tested is the printed one, 8 more"),
+    (Fault::TakenAsOneFirst, "taken-as-one-first", "an upper's power above 2,000 is let through"),
+    (Fault::LowerAboveOne, "lower-above-one", "a lower above 1 is let through"),
+    (Fault::LowerOneRefused, "lower-one-refused", "a lower of 1 is refused"),
+    (Fault::LowerAboveUpper, "lower-above-upper", "a lower above its upper is let through"),
+    (Fault::EqualRefused, "equal-refused", "a lower equal to its upper is refused"),
+    (Fault::UpperAboveOneRefused, "upper-above-one-refused", "an upper above 1 is refused"),
+];
+
 thread_local! {
     static PLANTED: Cell<Option<Fault>> = const { Cell::new(None) };
 }
@@ -167,7 +236,27 @@ pub fn planted(fault: Fault) -> bool {
     PLANTED.with(|cell| cell.get() == Some(fault))
 }
 
-/// The fault of a name.
-pub fn named(name: &str) -> Option<Fault> {
-    ALL.iter().find(|(_, known, _)| *known == name).map(|&(fault, _, _)| fault)
+/// Reads the arguments of a program that can plant the faults of a list: none; `--fault NAME`, which
+/// plants one; or `--faults`, which lists them. The program ends with the code if there is one.
+pub fn read_arguments(program: &str, list: &[Known]) -> Option<ExitCode> {
+    let arguments: Vec<String> = std::env::args().skip(1).collect();
+    let arguments: Vec<&str> = arguments.iter().map(String::as_str).collect();
+    let fault = |name: &str| list.iter().find(|known| known.1 == name).map(|known| known.0);
+    match arguments.as_slice() {
+        [] => None,
+        ["--faults"] => {
+            for (_, name, meaning) in list {
+                println!("{name}: {meaning}");
+            }
+            Some(ExitCode::SUCCESS)
+        }
+        ["--fault", name] if fault(name).is_some() => {
+            plant(fault(name));
+            None
+        }
+        _ => {
+            eprintln!("usage: {program} [--fault NAME | --faults]");
+            Some(ExitCode::from(2))
+        }
+    }
 }

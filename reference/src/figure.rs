@@ -185,6 +185,14 @@ fn divided(value: u128, by: u128) -> (u128, u128) {
 }
 
 impl Figure {
+    /// digits × 10^power as a figure is held: zero with power 0, or nine digits. None where it is
+    /// held otherwise.
+    pub fn held(digits: u64, power: i32) -> Option<Figure> {
+        let zero = digits == 0 && power == 0;
+        let nine = (100_000_000..=999_999_999).contains(&digits);
+        (zero || nine).then_some(Decimal { digits, power })
+    }
+
     /// A whole number of at most nine digits, which is exact.
     pub fn small(number: u64) -> Figure {
         debug_assert!(number < 1_000_000_000);

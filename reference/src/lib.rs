@@ -11,19 +11,26 @@
 //! - [`walk`]: the cut tree, refusal 13
 //! - [`bounds`]: the lower figure of a path and the totals
 //! - [`rows`]: a row for each way to fail, refusal 14
+//! - [`orprob`], [`orlines`]: one figure for several subsystems, refusals 17 and 18; its lines
 //! - [`bigint`], [`fraction`], [`exact`], [`accuracy`]: exact sums and the accuracy rule
-//! - [`faults`]: faults that can be planted on purpose, to try the comparer on
+//! - [`orexact`]: the exact values of several subsystems, and the rule on their figures
+//! - [`faults`]: faults that can be planted on purpose, to try the comparers on
+//! - [`comparing`]: what the two comparers share
 
 pub mod accuracy;
 pub mod answer;
 pub mod bigint;
 pub mod bounds;
+pub mod comparing;
 pub mod exact;
 pub mod faults;
 pub mod figure;
 pub mod fraction;
 pub mod marked;
 pub mod model;
+pub mod orexact;
+pub mod orlines;
+pub mod orprob;
 pub mod rows;
 pub mod steps;
 pub mod stream;

@@ -4,7 +4,7 @@
 
 use crate::figure::Figure;
 use crate::{assess_rows, Answer, Row};
-use std::io::{self, ErrorKind, Read, Write};
+use std::io::{self, ErrorKind, Read};
 
 /// The most words and the most rows that a record may hold; a model of more words than
 /// [`MOST_WORDS`](crate::words::MOST_WORDS) is refused anyway.
@@ -16,7 +16,7 @@ pub struct Record {
     pub words: Vec<u32>,
 }
 
-pub fn write_record(to: &mut impl Write, record: &Record) -> io::Result<()> {
+pub fn bytes_of(record: &Record) -> Vec<u8> {
     let mut bytes = Vec::with_capacity(16 + 4 * record.words.len());
     bytes.extend_from_slice(&record.budget.to_le_bytes());
     bytes.extend_from_slice(&record.rows.to_le_bytes());
@@ -24,7 +24,7 @@ pub fn write_record(to: &mut impl Write, record: &Record) -> io::Result<()> {
     for word in &record.words {
         bytes.extend_from_slice(&word.to_le_bytes());
     }
-    to.write_all(&bytes)
+    bytes
 }
 
 /// The next record, or none at the end of the input.

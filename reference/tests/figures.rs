@@ -111,6 +111,19 @@ fn totals_to_figures() {
     }
 }
 
+/// Zero has the power 0, and any other figure nine digits.
+#[test]
+fn how_figures_are_held() {
+    for (digits, power) in [(0, 0), (100_000_000, 0), (999_999_999, -2_000), (123_456_789, 7)] {
+        let held = Figure::held(digits, power).map(|figure| (figure.digits(), figure.power()));
+        assert_eq!(held, Some((digits, power)));
+    }
+    for (digits, power) in [(0, 1), (0, -8), (1, 0), (99_999_999, 0), (1_000_000_000, 0)] {
+        assert_eq!(Figure::held(digits, power), None);
+    }
+    assert_eq!(Figure::held(u64::MAX, -9), None);
+}
+
 /// Model L of document 01.
 #[test]
 fn model_l() {

@@ -1,13 +1,13 @@
 use crate::{Refusal, Version, VERSION};
 use core::fmt;
 
-/// Why there is no report. Later versions may add cases.
+/// Why there is no report, or why figures are not combined. Later versions may add cases.
 #[derive(Clone, Copy, Debug, PartialEq, Eq)]
 #[non_exhaustive]
 pub enum Error {
-    /// The library turned the model away.
+    /// The library turned the model, or the pairs of figures, away.
     Refused(Refusal),
-    /// The library turned the model away by a number that this wrapper does not know.
+    /// The library turned them away by a number that this wrapper does not know, or does not know of this call.
     UnknownRefusal { number: u64, place: u64 },
     /// The library is of another version than this wrapper, and was not asked.
     OtherVersion(Version),

@@ -15,6 +15,7 @@ pub struct Figure {
 
 impl Figure {
     pub(crate) const ZERO: Figure = Figure { digits: 0, power: 0 };
+    pub(crate) const ONE: Figure = Figure { digits: LEAST, power: -8 };
     /// The greatest of all.
     pub(crate) const MOST: Figure = Figure { digits: GREATEST, power: i32::MAX };
 

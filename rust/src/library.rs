@@ -1,10 +1,16 @@
 //! The calls of the archive. `include/bounds.h` says what each promises. Each but that for the version looks at the version first.
 
+use crate::orprob::Combined;
 use crate::text::{self, Text};
-use crate::{rows, version, Error, Figure, Reason, Refusal, Report, Row, MOST_ROWS, WORDS_SIZE};
+use crate::{
+    rows, version, Error, Figure, Reason, Refusal, Report, Row, MOST_PAIRS, MOST_ROWS, WORDS_SIZE,
+};
 
 const VALUES: usize = 9;
 const POWERS: usize = 3;
+pub(crate) const OR_FIGURES: usize = 2 * MOST_PAIRS;
+pub(crate) const OR_VALUES: usize = 3;
+pub(crate) const OR_POWERS: usize = 2;
 
 extern "C" {
     fn bounds_version() -> u64;
@@ -27,6 +33,13 @@ extern "C" {
     fn bounds_text(words: *const u32, count: usize, budget: u64, text: *mut u8) -> usize;
     fn bounds_words(bytes: *const u8, count: usize, words: *mut u32) -> usize;
     fn bounds_at_or_below(digits: u64, power: i32, limit_digits: u64, limit_power: i32) -> u64;
+    fn bounds_or(
+        digits: *const u64,
+        powers: *const i32,
+        pairs: usize,
+        or_values: *mut u64,
+        or_powers: *mut i32,
+    ) -> u64;
 }
 
 pub(crate) fn version() -> u64 {
@@ -147,6 +160,27 @@ fn order(answer: u64) -> Result<bool, Error> {
     }
 }
 
+/// What the library writes for so many pairs of figures, the first of these digits and powers.
+pub(crate) fn or(
+    digits: &[u64; OR_FIGURES],
+    powers: &[i32; OR_FIGURES],
+    pairs: usize,
+) -> Result<Combined, Error> {
+    version::agreed(version::library_version())?;
+    let mut combined = Combined::UNTOUCHED;
+    // SAFETY: all four arrays have the lengths that the header states, whatever the number of pairs; none that is written overlaps another.
+    combined.number = unsafe {
+        bounds_or(
+            digits.as_ptr(),
+            powers.as_ptr(),
+            pairs,
+            combined.values.as_mut_ptr(),
+            combined.powers.as_mut_ptr(),
+        )
+    };
+    Ok(combined)
+}
+
 #[cfg(test)]
 mod tests {
     extern crate std;
@@ -161,7 +195,7 @@ mod tests {
     #[test]
     fn every_number() {
         for number in (0..=64).chain([u64::MAX - 1, u64::MAX]) {
-            let known = (1..=11).contains(&number) || (13..=16).contains(&number);
+            let known = (1..=11).contains(&number) || (13..=18).contains(&number);
             match answer(number, VALUES_A, POWERS_A) {
                 Ok(report) => {
                     assert_eq!(number, 0);

@@ -1,6 +1,6 @@
 use core::fmt;
 
-/// Why a model was turned away.
+/// Why a model, or what was to be combined, was turned away.
 #[derive(Clone, Copy, Debug, PartialEq, Eq)]
 pub struct Refusal {
     pub reason: Reason,
@@ -28,6 +28,10 @@ pub enum Reason {
     TooFewRows,
     StateNotGreater,
     NamedStateWithExits,
+    /// Only of [`crate::probabilistic_or`].
+    PairCountOutOfRange,
+    /// Only of [`crate::probabilistic_or`].
+    PairOutOfRange,
 }
 
 /// Who can mend what a refusal names.
@@ -51,6 +55,8 @@ pub enum Place {
     State,
     /// A number of rows: so many are needed.
     Rows,
+    /// A pair of figures, counted from 0.
+    Pair,
 }
 
 /// All that is known of a reason.
@@ -63,7 +69,7 @@ struct Entry {
 }
 
 impl Reason {
-    pub const ALL: [Reason; 15] = [
+    pub const ALL: [Reason; 17] = [
         Reason::TooManyWords,
         Reason::BudgetOutOfRange,
         Reason::WrongKind,
@@ -79,6 +85,8 @@ impl Reason {
         Reason::TooFewRows,
         Reason::StateNotGreater,
         Reason::NamedStateWithExits,
+        Reason::PairCountOutOfRange,
+        Reason::PairOutOfRange,
     ];
 
     /// The rows of the table in docs/REPORT.md; tests/wording compares them.
@@ -188,6 +196,20 @@ impl Reason {
                 place: Place::State,
                 sentence: "State PLACE is named as the generator's and has exits.",
                 advice: "Take its exits out, or do not name it: a path that ends there is cut.",
+            },
+            Reason::PairCountOutOfRange => Entry {
+                number: 17,
+                party: Party::Caller,
+                place: Place::Nothing,
+                sentence: "There must be from 1 to 16 pairs of figures.",
+                advice: "The number of pairs: combine no fewer than one and no more than sixteen.",
+            },
+            Reason::PairOutOfRange => Entry {
+                number: 18,
+                party: Party::Caller,
+                place: Place::Pair,
+                sentence: "Pair PLACE holds what is no figure, a power of ten outside -2,000 to 2,000, or a lower above 1 or above its upper.",
+                advice: "The pair: nine digits from 100,000,000 to 999,999,999, or a zero with power 0; the lower at most 1 and at most the upper.",
             },
         }
     }

@@ -140,6 +140,14 @@ fn sentences() {
         sentence(Reason::TooFewRows, 3),
         "Fewer rows were lent than the 3 that the model needs."
     );
+    assert_eq!(
+        sentence(Reason::PairCountOutOfRange, 0),
+        "There must be from 1 to 16 pairs of figures."
+    );
+    assert_eq!(
+        sentence(Reason::PairOutOfRange, 15),
+        "Pair 15 holds what is no figure, a power of ten outside -2,000 to 2,000, or a lower above 1 or above its upper."
+    );
     for reason in Reason::ALL {
         assert!(!sentence(reason, 5).contains("PLACE"), "{reason:?}");
         assert!(!reason.advice().is_empty(), "{reason:?}");

@@ -2,7 +2,9 @@
 
 use std::mem::{align_of, offset_of, size_of};
 
-use bounds::{Party, Reason, Row, MOST_BUDGET, MOST_ROWS, MOST_WORDS, STACK, VERSION, WORDS_SIZE};
+use bounds::{
+    Party, Reason, Row, MOST_BUDGET, MOST_PAIRS, MOST_ROWS, MOST_WORDS, STACK, VERSION, WORDS_SIZE,
+};
 
 /// The header has the same version, sizes, numbers and groups. (tests/wording compares the sentences.)
 #[test]
@@ -13,6 +15,7 @@ fn header() {
         ("MOST_WORDS", MOST_WORDS as u64),
         ("MOST_BUDGET", MOST_BUDGET),
         ("MOST_ROWS", MOST_ROWS as u64),
+        ("MOST_PAIRS", MOST_PAIRS as u64),
         ("STACK", STACK as u64),
     ];
     for (name, size) in sizes {

@@ -6,7 +6,7 @@
 #include <inttypes.h>
 #include <stdio.h>
 
-static int put_figure(char *to, size_t room, const char *label, bounds_figure f)
+static inline int put_figure(char *to, size_t room, const char *label, bounds_figure f)
 {
     if (f.digits == 0)
         return snprintf(to, room, "%s 0\n", label);
@@ -14,7 +14,7 @@ static int put_figure(char *to, size_t room, const char *label, bounds_figure f)
 }
 
 /* Returns how many bytes it wrote, the zero byte at the end left out. */
-static int put_answer(char *to, size_t room, bounds_answer a)
+static inline int put_answer(char *to, size_t room, bounds_answer a)
 {
     if (a.refusal != BOUNDS_REPORTED)
         return snprintf(to, room, "refused %" PRIu64 " at %" PRIu64 "\n", a.refusal, a.place);

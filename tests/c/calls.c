@@ -191,7 +191,7 @@ static void check_sentences(void)
     const char *unknown = bounds_sentence(12);
     char text[BOUNDS_SENTENCE_SIZE + GUARD];
     for (uint64_t refusal = 0; refusal <= 64; refusal++) {
-        int known = (refusal >= 1 && refusal <= 11) || (refusal >= 13 && refusal <= 16);
+        int known = (refusal >= 1 && refusal <= 11) || (refusal >= 13 && refusal <= 18);
         const char *sentence = bounds_sentence(refusal);
         if ((*sentence == '\0') != (refusal == 0) || (strcmp(sentence, unknown) == 0) != (refusal != 0 && !known))
             fail("a sentence too many or too few", "bounds_sentence");
@@ -207,6 +207,10 @@ static void check_sentences(void)
     if (strcmp(bounds_sentence_at(15, 5, text), "The state named by word 5 is not greater than the one named before it.") != 0)
         fail("a sentence with its place", "bounds_sentence_at");
     if (strcmp(bounds_sentence_at(16, 2, text), "State 2 is named as the generator's and has exits.") != 0)
+        fail("a sentence with its place", "bounds_sentence_at");
+    if (strcmp(bounds_sentence_at(17, 0, text), "There must be from 1 to 16 pairs of figures.") != 0)
+        fail("a sentence without a place", "bounds_sentence_at");
+    if (strncmp(bounds_sentence_at(18, 15, text), "Pair 15 holds what is no figure, ", 33) != 0)
         fail("a sentence with its place", "bounds_sentence_at");
     if (strcmp(bounds_sentence_at(11, 0, text), "The start state 0 has no exits.") != 0)
         fail("a sentence with its place", "bounds_sentence_at");

@@ -22,7 +22,7 @@ typedef struct {
     char expected[1 << 16];
 } model;
 
-static void fail(const char *what, const char *of)
+static inline void fail(const char *what, const char *of)
 {
     fprintf(stderr, "%s: %s\n", of, what);
     exit(1);
@@ -37,12 +37,12 @@ static inline void set_words(model *m, const uint32_t *words, size_t count)
         m->bytes[i] = (uint8_t)(words[i / 4] >> (8 * (i % 4)));
 }
 
-static uint8_t nibble(char c)
+static inline uint8_t nibble(char c)
 {
     return (uint8_t)(c <= '9' ? c - '0' : (c | 32) - 'a' + 10);
 }
 
-static void parse(char *line, model *m)
+static inline void parse(char *line, model *m)
 {
     char *name = strtok(line, " \n"), *budget = strtok(NULL, " \n"), *words = strtok(NULL, " \n"), *expected = strtok(NULL, " \n");
     char *fifth = strtok(NULL, " \n");
@@ -72,7 +72,7 @@ static void parse(char *line, model *m)
 }
 
 /* Hands each model of a file on, and returns how many there were. */
-static long each_model(const char *path, void (*to)(const model *))
+static inline long each_model(const char *path, void (*to)(const model *))
 {
     static char line[10 * MOST_BYTES];
     static model m;

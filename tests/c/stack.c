@@ -1,5 +1,5 @@
 /*
- * Measures the stack that calls need, on the models of files (models.h) and on paths of 24 steps through every class:
+ * Measures the stack that calls need, on the models of files (models.h), on paths of 24 steps through every class and on pairs of figures:
  *
  *     stack FILE..
  *
@@ -18,17 +18,21 @@ static uint8_t *stack;
 static uint32_t words[BOUNDS_WORDS_SIZE];
 static size_t count;
 static uint64_t budget;
-static size_t most[3]; /* by function */
+static size_t most[4]; /* by function */
 static uint8_t *entered; /* where the stack stood before the call */
 static bounds_row rows[BOUNDS_MOST_ROWS];
+static uint64_t digits[BOUNDS_OR_FIGURES]; /* of as many pairs as there may be */
+static int32_t tens[BOUNDS_OR_FIGURES];
 
-enum function { ASSESS, ASSESS_ROWS, TEXT };
+enum function { ASSESS, ASSESS_ROWS, TEXT, OR };
 
 static void *call(void *asked)
 {
     uint8_t text[BOUNDS_TEXT_SIZE];
     uint64_t values[BOUNDS_VALUES];
     int32_t powers[BOUNDS_POWERS];
+    uint64_t or_values[BOUNDS_OR_VALUES];
+    int32_t or_powers[BOUNDS_OR_POWERS];
     entered = (uint8_t *)__builtin_frame_address(0);
     switch (*(enum function *)asked) {
     case ASSESS:
@@ -36,6 +40,9 @@ static void *call(void *asked)
         break;
     case ASSESS_ROWS:
         bounds_assess_rows(words, count, budget, rows, BOUNDS_MOST_ROWS, values, powers);
+        break;
+    case OR:
+        bounds_or(digits, tens, BOUNDS_MOST_PAIRS, or_values, or_powers);
         break;
     default:
         bounds_text(words, count, budget, text);
@@ -98,17 +105,32 @@ static void measure_ring(int fast)
     measure_each();
 }
 
+/* As many pairs as there may be, of one lower and one upper. */
+static void measure_pairs(bounds_figure lower, bounds_figure upper)
+{
+    for (size_t i = 0; i < BOUNDS_OR_FIGURES; i++) {
+        digits[i] = i % 2 == 0 ? lower.digits : upper.digits;
+        tens[i] = i % 2 == 0 ? lower.power : upper.power;
+    }
+    measure(OR);
+}
+
 int main(int arguments, char **files)
 {
+    static const bounds_figure zero = { 0, 0 }, tiny = { 123456789, -2000 }, third = { 333333333, -9 }, one = { 100000000, -8 };
     long models = 2;
     if (posix_memalign((void **)&stack, 4096, GUARD + STACK) != 0 || mprotect(stack, GUARD, PROT_NONE) != 0)
         fail("no memory", "stack");
     stack += GUARD;
     measure_ring(0);
     measure_ring(1);
+    measure_pairs(zero, one);
+    measure_pairs(tiny, third);
+    measure_pairs(third, third);
+    measure_pairs(one, third);
     for (int i = 1; i < arguments; i++)
         models += each_model(files[i], measure_model);
-    printf("stack: %zu bytes at most over %ld models, with rows %zu and as text %zu, of the %d that the header states\n", most[ASSESS], models,
-           most[ASSESS_ROWS], most[TEXT], BOUNDS_STACK);
-    return most[ASSESS] > BOUNDS_STACK || most[ASSESS_ROWS] > BOUNDS_STACK || most[TEXT] > BOUNDS_STACK;
+    printf("stack: %zu bytes at most over %ld models, with rows %zu and as text %zu, for pairs %zu, of the %d that the header states\n", most[ASSESS],
+           models, most[ASSESS_ROWS], most[TEXT], most[OR], BOUNDS_STACK);
+    return most[ASSESS] > BOUNDS_STACK || most[ASSESS_ROWS] > BOUNDS_STACK || most[TEXT] > BOUNDS_STACK || most[OR] > BOUNDS_STACK;
 }

@@ -1,8 +1,9 @@
 /*
- * A stand-in for the library, for what the doors do with a version, a refusal, a row or a mark that they do not know. BOUNDS_STUB_VERSION is the
- * version that it says it is of, BOUNDS_STUB_REFUSAL the number that it refuses by; BOUNDS_STUB_LOWER_EXACT and BOUNDS_STUB_UPPER_EXACT are the marks;
- * unless BOUNDS_STUB_STATE is 0, the first row is of that state, with BOUNDS_STUB_DIGITS in both figures. Where the version is another than the
- * header's, nothing else may be called: the program is ended.
+ * A stand-in for the library, for what the doors do with a version, a refusal, a row, a mark or combined figures that they do not know.
+ * BOUNDS_STUB_VERSION is the version that it says it is of, BOUNDS_STUB_REFUSAL the number that it refuses by; BOUNDS_STUB_LOWER_EXACT and
+ * BOUNDS_STUB_UPPER_EXACT are the marks; unless BOUNDS_STUB_STATE is 0, the first row is of that state, with BOUNDS_STUB_DIGITS in both figures.
+ * BOUNDS_STUB_OR_REFUSAL, BOUNDS_STUB_OR_PLACE, BOUNDS_STUB_OR_LOWER and BOUNDS_STUB_OR_UPPER are what bounds_or hands back and writes, with
+ * BOUNDS_STUB_OR_POWER as the power of both. Where the version is another than the header's, nothing else may be called: the program is ended.
  */
 #include "../../include/bounds.h"
 #include <stdio.h>
@@ -70,4 +71,18 @@ uint64_t bounds_at_or_below(uint64_t digits, int32_t power, uint64_t limit_digit
     (void)digits, (void)power, (void)limit_digits, (void)limit_power;
     called("bounds_at_or_below");
     return 2;
+}
+
+uint64_t bounds_or(const uint64_t digits[BOUNDS_OR_FIGURES], const int32_t powers[BOUNDS_OR_FIGURES], size_t pairs,
+                   uint64_t or_values[BOUNDS_OR_VALUES], int32_t or_powers[BOUNDS_OR_POWERS])
+{
+    int32_t power = (int32_t)number("BOUNDS_STUB_OR_POWER");
+    (void)digits, (void)powers, (void)pairs;
+    called("bounds_or");
+    or_values[BOUNDS_OR_PLACE] = number("BOUNDS_STUB_OR_PLACE");
+    or_values[BOUNDS_OR_LOWER_DIGITS] = number("BOUNDS_STUB_OR_LOWER");
+    or_values[BOUNDS_OR_UPPER_DIGITS] = number("BOUNDS_STUB_OR_UPPER");
+    or_powers[BOUNDS_OR_LOWER_POWER] = power;
+    or_powers[BOUNDS_OR_UPPER_POWER] = power;
+    return number("BOUNDS_STUB_OR_REFUSAL");
 }

@@ -16,7 +16,8 @@ Writes the line of a file that the word at a place comes from, with its number. 
     run,
 };
 
-const TAKES: Takes = Takes { flags: &[], values: &["as"], files: &["FILE", "PLACE"] };
+const TAKES: Takes =
+    Takes { flags: &[], values: &["as"], files: &["FILE", "PLACE"], repeated: &[] };
 
 fn run(given: &[&str], out: &mut dyn Write) -> Done {
     let arguments = TAKES.parse(given)?;

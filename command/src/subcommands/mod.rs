@@ -2,6 +2,7 @@
 
 mod answers;
 mod line;
+mod or;
 mod report;
 mod rows;
 mod sweep;
@@ -23,6 +24,7 @@ pub struct Subcommand {
 pub const ALL: &[Subcommand] = &[
     report::SUBCOMMAND,
     rows::SUBCOMMAND,
+    or::SUBCOMMAND,
     sweep::SUBCOMMAND,
     words::SUBCOMMAND,
     text::SUBCOMMAND,

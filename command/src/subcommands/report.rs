@@ -27,8 +27,12 @@ Exit status: 0 report, 1 refusal, 2 usage or input, 3 a report whose upper is ab
     run,
 };
 
-const TAKES: Takes =
-    Takes { flags: &["json"], values: &["budget", "at-most", "as"], files: &["FILE"] };
+const TAKES: Takes = Takes {
+    flags: &["json"],
+    values: &["budget", "at-most", "as"],
+    files: &["FILE"],
+    repeated: &[],
+};
 
 fn run(given: &[&str], out: &mut dyn Write) -> Done {
     let arguments = TAKES.parse(given)?;
@@ -45,20 +49,37 @@ fn run(given: &[&str], out: &mut dyn Write) -> Done {
     if as_json {
         writeln!(out, "{}", object(&report, meets))?;
     } else {
-        write!(out, "{}", bounds::text(&model.words, budget)?)?;
-        if let (Some(limit), Some(meets)) = (limit, meets) {
-            writeln!(out, "at most {limit} {}", if meets { "yes" } else { "no" })?;
-        }
+        write!(out, "{}{}", bounds::text(&model.words, budget)?, verdict(limit, meets))?;
     }
-    Ok(if meets == Some(false) { Status::AboveLimit } else { Status::Reported })
+    Ok(status(meets))
 }
 
-fn limit(arguments: &Arguments) -> Result<Option<Figure>, Failure> {
+/// The requirement of `--at-most`, if there is one.
+pub fn limit(arguments: &Arguments) -> Result<Option<Figure>, Failure> {
     let Some(spelled) = arguments.value("at-most") else {
         return Ok(None);
     };
     let wrong = |why| Failure::new(format!("--at-most {}: {why}", shown(spelled)));
     Ok(Some(spelled.parse().map_err(wrong)?))
+}
+
+/// The line on a requirement, if there is one.
+pub fn verdict(limit: Option<Figure>, meets: Option<bool>) -> String {
+    match (limit, meets) {
+        (Some(limit), Some(meets)) => {
+            format!("at most {limit} {}\n", if meets { "yes" } else { "no" })
+        }
+        _ => String::new(),
+    }
+}
+
+/// The exit status beside a figure.
+pub fn status(meets: Option<bool>) -> Status {
+    if meets == Some(false) {
+        Status::AboveLimit
+    } else {
+        Status::Reported
+    }
 }
 
 fn object(report: &Report, meets: Option<bool>) -> String {

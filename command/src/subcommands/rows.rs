@@ -30,7 +30,8 @@ Exit status: 0 report, 1 refusal, 2 usage or input.",
     run,
 };
 
-const TAKES: Takes = Takes { flags: &["json"], values: &["budget", "as"], files: &["FILE"] };
+const TAKES: Takes =
+    Takes { flags: &["json"], values: &["budget", "as"], files: &["FILE"], repeated: &[] };
 
 fn run(given: &[&str], out: &mut dyn Write) -> Done {
     let arguments = TAKES.parse(given)?;

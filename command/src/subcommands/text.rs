@@ -16,7 +16,7 @@ kind out of place, a field out of range, left-over bytes) are an error that name
     run,
 };
 
-const TAKES: Takes = Takes { flags: &[], values: &["as"], files: &["WORDS"] };
+const TAKES: Takes = Takes { flags: &[], values: &["as"], files: &["WORDS"], repeated: &[] };
 
 fn run(given: &[&str], out: &mut dyn Write) -> Done {
     let arguments = TAKES.parse(given)?;

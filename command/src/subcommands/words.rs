@@ -18,7 +18,7 @@ Beyond that no model is judged: what else is wrong with it, the library says.",
     run,
 };
 
-const TAKES: Takes = Takes { flags: &["hex"], values: &["as"], files: &["FILE"] };
+const TAKES: Takes = Takes { flags: &["hex"], values: &["as"], files: &["FILE"], repeated: &[] };
 
 fn run(given: &[&str], out: &mut dyn Write) -> Done {
     let arguments = TAKES.parse(given)?;

@@ -22,8 +22,9 @@ pub plus-down-figure : (a b : Figure) → IsFigure 9 (plus-down a b)
 unfolding plus-down
 plus-down-figure a b = down-figure 8 _
 
-pub one-figure : IsFigure 9 (of-whole 1)
-one-figure = (of-whole-sized 1 (lit≤ tt)) .is-figure
+pub whole-figure : (n : ℕ) → IsFigure 9 (of-whole n)
+unfolding of-whole
+whole-figure n = down-figure 8 _
 
 test-one : (f one : Figure) → one ≡ of-whole 1 → at-or-below f one ≡ at-or-below f (of-whole 1)
 test-one f one e = rw e refl

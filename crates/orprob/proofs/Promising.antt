@@ -18,10 +18,10 @@ use Rattle.orprob.specs.Internal.Parts.{FirstWrong}
 use Rattle.orprob.specs.Promise.{answer-of, FaithfulOr, Promised}
 use Rattle.orprob.proofs.PairTests.{pair-tested}
 use Rattle.orprob.proofs.Enclosure.{both-or, answer-count, answer-pairs, enclosure-theorem}
-use Rattle.orprob.proofs.Pinned.{or-cases-agree}
+use Rattle.orprob.proofs.Pinned.{or-cases-agree, exact-ors-agree}
 
 faithful-or : FaithfulOr
-faithful-or = record { figures = faithful-figures; figure-tested = tested; pair-tested = pair-tested; cases = or-cases-agree }
+faithful-or = record { figures = faithful-figures; figure-tested = tested; pair-tested = pair-tested; cases = or-cases-agree; exact-cases = exact-ors-agree }
 
 no-longer : (count : ℕ) (room : List Pair) → length (take count room) ≤ count
 no-longer count room = omega (arith, length-take count room)

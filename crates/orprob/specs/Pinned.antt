@@ -1,5 +1,5 @@
--- Document 02, Item 4: pairs with their answers, and one claim: that the definitions agree with all of them. Nearly all are cases of other hands. Assumes
--- nothing: these are definitions.
+-- Document 02, Item 4: pairs with their answers, nearly all of them cases of other hands, and pairs with their exact values, worked out by hand; and two
+-- claims: that the definitions agree with all of them. Assumes nothing: these are definitions.
 use Prim.Native.Nat.{ℕ}
 use mathlib.Core.Path.{_≡_}
 use mathlib.Core.Bool.{Bool, true, false, _&&_}
@@ -7,12 +7,13 @@ use mathlib.Core.List.{List, [], _∷_}
 use lib.ListN.{length, replicate}
 use lib.Dec.{eqb}
 use lib.IntN.{pos, negℤ}
+use Rattle.fraction.specs.Fraction.{Fraction, whole, ratio, at-most}
 use Rattle.figure.specs.declared.Figure.{Figure}
 use Rattle.figure.specs.Rounding.{figure, none}
 use Rattle.word.specs.Answer.{Answer, refused, granted}
 use Rattle.tree.specs.Marked.{all, same-figure}
 use Rattle.orprob.specs.declared.Pair.{Pair}
-use Rattle.orprob.specs.Combination.{answer}
+use Rattle.orprob.specs.Combination.{answer, exact-lower-or, exact-upper-or}
 
 pub record OrCase : Type 0 where
   pub pairs : List Pair
@@ -89,15 +90,54 @@ or-cases =
     ∷ (replicate 3 (pair (by 999999999 9) (by 999999999 9)) give pair (by 999999999 9) one)
     -- 1 − 1E-22, a half of it, and their sum: each is rounded, outward
     ∷ (pair (by 100000000 30) (by 100000000 30) ∷ pair half half ∷ [] give pair (by 499999999 9) (by 500000001 9))
+    -- 1 − 5.00000001E-2 = 0.9499999999 has ten digits: up 0.95, down 0.949999999. Times 1E-1 both are exact, and so is the lower's sum, 0.145
+    ∷ (pair (by 500000001 10) (by 500000001 10) ∷ pair (by 100000000 9) (by 100000000 9) ∷ [] give pair (by 145000000 9) (by 145000001 9))
+    -- times 1 the lower's sum is 0.9999999991; the upper's, 1.0000000001, is rounded to 1.00000001 and set to 1
+    ∷ (pair (by 500000001 10) (by 500000001 10) ∷ pair one one ∷ [] give pair (by 999999999 9) one)
+    -- 0.333333333 × (1 − 0.5) = 0.1666666665 has ten digits; only the product is rounded
+    ∷ (pair half half ∷ pair (by 333333333 9) (by 333333333 9) ∷ [] give pair (by 666666666 9) (by 666666667 9))
     -- 1 − 1E-1 is exact, and the product with 4E-10; only the sum is rounded
     ∷ (pair (by 100000000 9) (by 100000000 9) ∷ pair (by 400000000 18) (by 400000007 18) ∷ [] give pair (by 100000000 9) (by 100000001 9))
     -- 7.88733932E-2 and 1E-1: 1 − 7.88733932E-2 = 0.9211266068 has ten digits
     ∷ (pair (by 788733932 10) (by 100000000 9) ∷ pair (by 100000000 9) (by 100000000 9) ∷ [] give pair (by 170986053 9) (by 190000000 9))
     ∷ (pair (by 100000000 10) (by 100000000 9) ∷ pair (by 904954495 17) (by 900486852 16) ∷ pair (by 999999999 11) (by 999999999 11) ∷ []
     give pair (by 199000088 10) (by 109000082 9))
+    -- 1E-1, and behind it 15 of 1E-30, each of which moves the upper by a unit of the last digit: 15 parts in 100,000,000
+    ∷ (pair (by 100000000 9) (by 100000000 9) ∷ replicate 15 (pair (by 100000000 38) (by 100000000 38)) give pair (by 100000000 9) (by 100000015 9))
     ∷ []
 
--- ---- the claim
+-- ---- exact values, worked out by hand
+
+pub record ExactOr : Type 0 where
+  pub pairs : List Pair
+  pub lower : Fraction
+  pub upper : Fraction
+
+abbrev quarter : Figure
+quarter = by 250000000 9
+
+abbrev fifth : Figure
+fifth = by 200000000 9
+
+unfoldable pub exact-ors : List ExactOr
+exact-ors =
+    record { pairs = []; lower = whole 0; upper = whole 0 }
+    -- 1 − 1/2 × 3/4 = 5/8; 1 − 1/2 × 1/2 = 3/4
+    ∷ record { pairs = pair half half ∷ pair quarter half ∷ []; lower = ratio (pos 5) 8; upper = ratio (pos 3) 4 }
+    -- 1 − 4/5 × 1/2 × 3/4 = 7/10; an upper above 1 is taken as 1, and 1 − 4/5 × 0 × 3/4 = 1
+    ∷ record { pairs = pair fifth fifth ∷ pair half (by 200000000 8) ∷ pair quarter quarter ∷ []; lower = ratio (pos 7) 10; upper = whole 1 }
+    ∷ []
+
+-- ---- the claims
+
+abbrev same-fraction : Fraction → Fraction → Bool
+same-fraction x y = at-most x y && at-most y x
+
+abbrev exactly : ExactOr → Bool
+exactly c = same-fraction (exact-lower-or (c .pairs)) (c .lower) && same-fraction (exact-upper-or (c .pairs)) (c .upper)
+
+unfoldable pub ExactOrsAgree : Type 0
+ExactOrsAgree = all exactly exact-ors ≡ true
 
 abbrev same-answer : Answer Pair → Answer Pair → Bool
 same-answer (refused n i) (refused o j) = eqb n o && eqb i j

@@ -12,7 +12,7 @@ use Rattle.orprob.specs.declared.Combined.{Combined}
 use Rattle.orprob.specs.declared.Combined.the-variants.{Figures, PairCountOutOfRange, PairOutOfRange}
 use Rattle.orprob.specs.Pairs.{PairTested}
 use Rattle.orprob.specs.Combination.{answer, Encloses}
-use Rattle.orprob.specs.Pinned.{OrCasesAgree}
+use Rattle.orprob.specs.Pinned.{OrCasesAgree, ExactOrsAgree}
 
 -- the code's answer as the definitions have it
 abbrev pub answer-of : Combined → Answer Pair
@@ -27,8 +27,9 @@ pub record FaithfulOr : Type 0 where
   -- what a figure is, and what a pair is, as a test and in words
   pub figure-tested : (f : Figure) → Tested f
   pub pair-tested : (x : Pair) → PairTested x
-  -- the pairs with their answers
+  -- pairs with their answers, and with their exact values
   pub cases : OrCasesAgree
+  pub exact-cases : ExactOrsAgree
 
 -- What `probabilistic_or` promises, of the room for pairs, the number of pairs given, of which the first stand in the room, and its answer.
 pub record Promised (room : List Pair) (count : ℕ) (r : Combined) : Type 0 where

@@ -7,21 +7,8 @@ use std::io::{self, BufReader, BufWriter, Write};
 use std::process::ExitCode;
 
 fn main() -> ExitCode {
-    let arguments: Vec<String> = std::env::args().skip(1).collect();
-    let arguments: Vec<&str> = arguments.iter().map(String::as_str).collect();
-    match arguments.as_slice() {
-        [] => {}
-        ["--faults"] => {
-            for (_, name, meaning) in faults::ALL {
-                println!("{name}: {meaning}");
-            }
-            return ExitCode::SUCCESS;
-        }
-        ["--fault", name] if faults::named(name).is_some() => faults::plant(faults::named(name)),
-        _ => {
-            eprintln!("usage: stream [--fault NAME | --faults]");
-            return ExitCode::from(2);
-        }
+    if let Some(code) = faults::read_arguments("stream", &faults::OF_REPORTS) {
+        return code;
     }
     match answer_all() {
         Ok(()) => ExitCode::SUCCESS,

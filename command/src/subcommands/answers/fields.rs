@@ -72,14 +72,35 @@ impl<'a> Fields<'a> {
     /// Digits and a power, whether they are a figure or not.
     pub fn figure(&self, key: &str) -> Result<(u64, i32), String> {
         let value = self.value(key)?;
-        let parsed = value.split_once('e').and_then(|(digits, power)| {
-            let plain = power.strip_prefix('-').unwrap_or(power);
-            whole_number(plain)?;
-            Some((whole_number(digits)?, power.parse().ok()?))
-        });
-        parsed.ok_or_else(|| {
+        figure_of(value).ok_or_else(|| {
             let value = quoted(value);
             format!("{key}={value}: expected digits, e and a power, such as 999500000e-12")
         })
     }
+
+    /// Pairs of these, lower and upper.
+    pub fn pairs(&self, key: &str) -> Result<Vec<[(u64, i32); 2]>, String> {
+        let value = self.value(key)?;
+        if value.is_empty() {
+            return Ok(Vec::new());
+        }
+        let pair = |part| {
+            pair_of(part).ok_or_else(|| {
+                let part = quoted(part);
+                format!("{key}: {part} is no pair: expected LOWER:UPPER, each digits, e and a power, such as 999500000e-12")
+            })
+        };
+        value.split(',').map(pair).collect()
+    }
+}
+
+fn pair_of(spelled: &str) -> Option<[(u64, i32); 2]> {
+    let (lower, upper) = spelled.split_once(':')?;
+    Some([figure_of(lower)?, figure_of(upper)?])
+}
+
+fn figure_of(spelled: &str) -> Option<(u64, i32)> {
+    let (digits, power) = spelled.split_once('e')?;
+    whole_number(power.strip_prefix('-').unwrap_or(power))?;
+    Some((whole_number(digits)?, power.parse().ok()?))
 }

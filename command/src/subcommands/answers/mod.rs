@@ -2,6 +2,7 @@
 
 mod at_or_below;
 mod fields;
+mod or;
 mod report;
 
 use super::Subcommand;
@@ -24,13 +25,15 @@ and stand apart by commas, with - at the end for left-over bytes; a figure is it
   report budget=N rows=N words=WORDS      the same where so many rows are lent, at most 100,000; then a line `row STATE LOWER UPPER` for each row
                                           that was changed
   at-or-below figure=FIGURE limit=FIGURE  yes, no, or `no figure` where one of them is none
+  or pairs=FIGURE:FIGURE,FIGURE:FIGURE    `lower LOWER` and `upper UPPER` of several subsystems together, from the lower and the upper of each, or a
+                                          refusal; no pair is `pairs=`
 
 A line that is no case is answered by `error: ` and what was expected, and the next line is read. Exit status: 0 when the input has ended, 2 where it
 cannot be read or the library is of another version.",
     run,
 };
 
-const TAKES: Takes = Takes { flags: &[], values: &[], files: &[] };
+const TAKES: Takes = Takes { flags: &[], values: &[], files: &[], repeated: &[] };
 
 /// A tool: its name, the keys of its fields, and its answer, without a newline behind the last line.
 struct Tool {
@@ -39,7 +42,7 @@ struct Tool {
     answer: fn(&Fields) -> Result<String, String>,
 }
 
-const TOOLS: &[Tool] = &[report::TOOL, at_or_below::TOOL];
+const TOOLS: &[Tool] = &[report::TOOL, at_or_below::TOOL, or::TOOL];
 
 fn run(given: &[&str], out: &mut dyn Write) -> Done {
     TAKES.parse(given)?;
@@ -69,7 +72,7 @@ fn answer(line: &[u8]) -> Result<String, String> {
     };
     let tool = TOOLS.iter().find(|tool| tool.name == name).ok_or_else(|| {
         let names: Vec<&str> = TOOLS.iter().map(|tool| tool.name).collect();
-        format!("{} is no tool: expected {}", quoted(name), names.join(" or "))
+        format!("{} is no tool: expected {}", quoted(name), names.join(", "))
     })?;
     (tool.answer)(&Fields::parse(rest, &tool.keys)?)
 }
@@ -111,6 +114,28 @@ mod tests {
         }
         assert_eq!(answered("report rows=7 words= budget=7"), "refused 3 at 0");
         assert_eq!(answered(&with("0").replace("1000000", "0")), "refused 2 at 0");
+    }
+
+    /// Cases of other hands: 04-000-none, 04-012-power--2001, 04-014-lower-over-upper, 04-018-zero-with-power, 04-037-pairs2, 04-002-17 and 04-001-16.
+    #[test]
+    fn pairs() {
+        for (given, expected) in [
+            ("", "refused 17 at 0"),
+            ("123456789e-11:123456789e-11,100000000e-2001:123456789e-11", "refused 18 at 1"),
+            ("500000000e-9:499999999e-9", "refused 18 at 0"),
+            ("0e1:500000000e-9", "refused 18 at 0"),
+            (
+                "200000000e-9:200000007e-9,542896543e-11:100000000e-8",
+                "lower 2.04343172E-1\nupper 1.00000000E0",
+            ),
+            ("18446744073709551615e2147483647:0e-2147483648", "refused 18 at 0"),
+        ] {
+            assert_eq!(answered(&format!("or pairs={given}")), expected, "{given}");
+        }
+        let many = |count| vec!["123456789e-11:500000000e-9"; count].join(",");
+        assert_eq!(answered(&format!("or pairs={}", many(17))), "refused 17 at 0");
+        let sixteen = "lower 1.95712364E-2\nupper 9.99984742E-1";
+        assert_eq!(answered(&format!("or pairs={}", many(16))), sixteen);
     }
 
     /// Cases of other hands: 03-000-named, 03-001-rows-short, 03-010-falling and 03-017-has-exits.
@@ -178,6 +203,25 @@ mod tests {
             "at-or-below figure=-1e0 limit=0e0",
             "at-or-below figure=1e2147483648 limit=0e0",
             "at-or-below figure=1 limit=0e0",
+            "or",
+            "or ",
+            "or pairs",
+            "or pairs=.",
+            "or pairs=,",
+            "or pairs=:",
+            "or pairs=0e0",
+            "or pairs=0e0:",
+            "or pairs=0e0:0e0,",
+            "or pairs=0e0:0e0:0e0",
+            "or pairs=0e0:0e0;0e0:0e0",
+            "or pairs=0e0:0e0, 0e0:0e0",
+            "or pairs=0:0",
+            "or pairs=-1e0:0e0",
+            "or pairs=1E-9:1E-9",
+            "or pairs=18446744073709551616e0:0e0",
+            "or pairs=0e0:0e2147483648",
+            "or pairs=0e0:0e0 pairs=0e0:0e0",
+            "or pairs=0e0:0e0 budget=1",
         ] {
             assert!(answered(line).starts_with("error: "), "{line}");
         }
@@ -195,6 +239,7 @@ mod tests {
             (&format!("report words= budget={long}"), &format!("budget={cut}: expected")),
             (&format!("report budget=1 words={long}"), &format!("words: {cut} is no word")),
             (&format!("at-or-below figure={long} limit="), &format!("figure={cut}: expected")),
+            (&format!("or pairs=0e0:0e0,{long}"), &format!("pairs: {cut} is no pair: expected")),
             (&format!("report {long}"), &format!("{cut} is no KEY=VALUE")),
             (&format!("report {long}=1"), &format!("{cut} is no key")),
             (&long, &format!("{cut} is no tool")),

@@ -40,6 +40,7 @@ const TAKES: Takes = Takes {
     flags: &[],
     values: &["time", "prune", "step-limit", "entry-limit", "rate", "budget", "svg", "as"],
     files: &["FILE"],
+    repeated: &[],
 };
 
 /// The answer at a point.

@@ -9,7 +9,7 @@ returns : tie.Need-returns
 returns c = no-pairs _ _ (c .if1 .taken)
 
 returns-2 : tie.Need-returns-2
-returns-2 c = too-many _ _ (c .if2 .taken)
+returns-2 c = too-many _ _ (omega (arith, c .if2 .taken))
 
 first-wrong-requires : tie.Need-first-wrong-requires
 first-wrong-requires c κs = search needs

@@ -7,7 +7,7 @@ use Rattle.figure.specs.Tested.{figure-test}
 use Rattle.figure.proofs.Tested.{tested}
 use Rattle.orprob.specs.declared.Pair.{Pair}
 use Rattle.orprob.specs.Pairs.{power-inside}
-use Rattle.orprob.proofs.Operands.{one-figure}
+use Rattle.orprob.proofs.Operands.{whole-figure}
 use Rattle.orprob.proofs.PairTests.{power-told, no-lower-figure, no-upper-figure, lower-outside, upper-outside, above-one, order-decides}
 use Rattle.orprob.proofs.pairs.is_pair.Statement.{statement}
 use Rattle.orprob.proofs.pairs.is_pair.Tie as tie
@@ -77,7 +77,7 @@ of-whole-requires c κs = search needs
 at-or-below-requires : tie.Need-at-or-below-requires
 at-or-below-requires c κs =
     let s = c .before .before .before .before .before .before .before in
-    (tested (pair-2 s .lower) .held (first (s .before .before)), rw (c .of-whole .ensures) one-figure)
+    (tested (pair-2 s .lower) .held (first (s .before .before)), rw (c .of-whole .ensures) (whole-figure _))
 
 returns-5 : tie.Need-returns-5
 returns-5 c =

@@ -1,4 +1,4 @@
-//! Random numbers that depend on nothing but the seed and the model's number.
+//! Random numbers that depend on nothing but the seed and the number of the case.
 
 pub struct Random {
     state: u64,
@@ -11,7 +11,9 @@ impl Random {
         Random { state: mixed ^ number.wrapping_mul(0xD134_2543_DE82_EF95) }
     }
 
-    /// The next 64 bits (the generator known as SplitMix64).
+    /// The next 64 bits (the generator known as SplitMix64). There is always a next, so it is no
+    /// iterator's.
+    #[allow(clippy::should_implement_trait)]
     pub fn next(&mut self) -> u64 {
         self.state = self.state.wrapping_add(0x9E37_79B9_7F4A_7C15);
         let mut mixed = self.state;
