@@ -14,7 +14,7 @@ use Rattle.orprob.specs.declared.Pair.{Pair}
 use Rattle.orprob.specs.declared.Combined.{Combined}
 use Rattle.orprob.specs.Combination.{answer}
 use Rattle.orprob.specs.Promise.{answer-of, Promised}
-use Rattle.embed.specs.Subsystems.{pair-given, pairs-given, OrPut, Ored}
+use Rattle.embed.specs.Subsystems.{pair-given, pairs-given, OrPut, OrAnswered}
 
 -- ---- the room filled
 
@@ -49,10 +49,10 @@ module _ (digits : List ℕ) (powers : List ℤ) where
 
 -- ---- the answer
 
-pub ored : {digits : List ℕ} {powers : List ℤ} {count number : ℕ} {numbers : List ℕ} {figure-powers : List ℤ} (room : List Pair) (a : Combined)
+pub or-answered : {digits : List ℕ} {powers : List ℤ} {count number : ℕ} {numbers : List ℕ} {figure-powers : List ℤ} (room : List Pair) (a : Combined)
     → room ≡ pairs-given digits powers → Promised room count a → OrPut (answer-of a) number numbers figure-powers
-    → Ored digits powers count number numbers figure-powers
-ored {digits} {powers} {count} {number} {numbers} {figure-powers} room a e p h =
+    → OrAnswered digits powers count number numbers figure-powers
+or-answered {digits} {powers} {count} {number} {numbers} {figure-powers} room a e p h =
     let q : Promised (pairs-given digits powers) count a = subst (λ (l : List Pair). Promised l count a) e p in
     record {
       put = subst (λ x. OrPut x number numbers figure-powers) (q .answer-is) h;

@@ -53,7 +53,7 @@ pub record OrPut (a : Answer Pair) (number : ℕ) (numbers : List ℕ) (powers :
   pub powers-are : powers ≡ or-powers (or-values a)
 
 -- What `bounds_or` promises, of the digits and powers given, the number of pairs, the number that it returns, and what the lent arrays hold after.
-pub record Ored (digits : List ℕ) (powers : List ℤ) (count : ℕ) (number : ℕ) (numbers : List ℕ) (figure-powers : List ℤ) : Type 0 where
+pub record OrAnswered (digits : List ℕ) (powers : List ℤ) (count : ℕ) (number : ℕ) (numbers : List ℕ) (figure-powers : List ℤ) : Type 0 where
   pub put : OrPut (answer count (take count (pairs-given digits powers))) number numbers figure-powers
   -- the figures enclose the exact values of the pairs given
   pub encloses : (r : Pair) → answer count (take count (pairs-given digits powers)) ≡ granted r → Encloses (take count (pairs-given digits powers)) r

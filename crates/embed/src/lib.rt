@@ -8,7 +8,7 @@ ghost use Rattle.tree.specs.Report as definition;
 ghost use Rattle.bounds.specs.Answers.{report-of, marks-of};
 ghost use Rattle.text.specs.Bytes.{most-bytes, Spelled};
 ghost use Rattle.embed.specs.Exports.{AnswerPut, Assessed, AssessedRows, Texted, Compared, numbers-of, powers-of, version};
-ghost use Rattle.embed.specs.Subsystems.{Ored};
+ghost use Rattle.embed.specs.Subsystems.{OrAnswered};
 ghost use Rattle.figure.specs.Rounding.{figure};
 use bounds::Answer;
 use bounds::Report;
@@ -166,7 +166,7 @@ pub extern "C" fn bounds_or(
     or_values: &mut [u64; 3],
     or_powers: &mut [i32; 2],
 ) -> u64
-    ensures { λ r. ⌜ Ored (now (digits .entry)) (now (powers .entry)) pairs r (now («or_values» .exit)) (now («or_powers» .exit)) ⌝ }
+    ensures { λ r. ⌜ OrAnswered (now (digits .entry)) (now (powers .entry)) pairs r (now («or_values» .exit)) (now («or_powers» .exit)) ⌝ }
     ensures { λ _. ⌜ (now (digits .exit) ≡ now (digits .entry)) × (now (powers .exit) ≡ now (powers .entry)) ⌝ }
 {
     let room = subsystems::pairs_given(digits, powers);

@@ -1,7 +1,7 @@
 -- `bounds_or` meets its contract: the numbers are those of the combination. Assumes nothing.
 use mathlib.Core.Path.{refl}
 use borrow.Author.Needs.{needs}
-use Rattle.embed.proofs.Given.{ored}
+use Rattle.embed.proofs.Given.{or-answered}
 use Rattle.embed.proofs.bounds_or.Statement.{statement}
 use Rattle.embed.proofs.bounds_or.Tie as tie
 
@@ -17,7 +17,7 @@ put-combined-requires c κs = search needs
 returns : tie.Need-returns
 returns c =
     let a = c .before .before .before in
-    (ored _ _ (a .before .pairs-given .ensures) (a .probabilistic-or .ensures) (c .put-combined .ensures), (refl, refl))
+    (or-answered _ _ (a .before .pairs-given .ensures) (a .probabilistic-or .ensures) (c .put-combined .ensures), (refl, refl))
 
 pub bounds-or-spec : {M : Type 1} → statement M
 bounds-or-spec =
