@@ -1,16 +1,13 @@
 -- Whether two numbers are a figure, as the code tests it, and what is answered for two that are and for one that is not. Assumes nothing.
-use Prim.Native.Nat.{ℕ, _≤_, _<_}
-use mathlib.Core.Path.{_≡_, refl, sym, ap, _∙_}
-use mathlib.Core.Bool.{Bool, true, false, true≢false}
-use native.Mathlib.Omega.{arith}
-use lib.Dec.{eqb, ltb}
-use lib.IntN.{ℤ, pos, negsuc}
+use Prim.Native.Nat.{ℕ}
+use mathlib.Core.Path.{_≡_, sym, _∙_}
+use mathlib.Core.Bool.{Bool, true, false}
+use lib.IntN.{ℤ}
 use mir.Syntax.{w32}
 use mir.Val.{SFits, toZ, ofZ}
 use mir.Facts.{toZ-ofZ}
-use borrow.Author.Tests.{eqb-true, eq-eqb, ne-eqb, ltb-true, ltb-false, lt-ltb, le-ltb}
 use Rattle.figure.specs.declared.Figure.{Figure}
-use Rattle.figure.specs.Rounding.{figure, IsFigure, is-zero, is-whole}
+use Rattle.figure.specs.Rounding.{figure, IsFigure}
 use Rattle.figure.specs.Operations.{at-or-below}
 use Rattle.figure.specs.Tested.{figure-test}
 use Rattle.figure.proofs.Tested.{tested}

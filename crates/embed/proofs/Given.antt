@@ -1,5 +1,5 @@
 -- Pairs given as plain numbers, one after the other; and from what `probabilistic_or` promises to what `bounds_or` does. Assumes nothing.
-use Prim.Native.Nat.{ℕ, zero, suc, _+_, _≤_, _<_}
+use Prim.Native.Nat.{ℕ, suc, _+_, _<_}
 use mathlib.Core.Path.{_≡_, refl, sym, ap, ap₂, subst, _∙_}
 use mathlib.Core.List.{List, [], _∷_, _++_, map}
 use native.Mathlib.Nat.{zero-add}
@@ -12,7 +12,6 @@ use Rattle.word.specs.Model.{numbers-from}
 use Rattle.word.proofs.Members.{numbers-last}
 use Rattle.orprob.specs.declared.Pair.{Pair}
 use Rattle.orprob.specs.declared.Combined.{Combined}
-use Rattle.orprob.specs.Combination.{answer}
 use Rattle.orprob.specs.Promise.{answer-of, Promised}
 use Rattle.embed.specs.Subsystems.{pair-given, pairs-given, OrPut, OrAnswered}
 

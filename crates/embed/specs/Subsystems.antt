@@ -10,9 +10,8 @@ use Rattle.figure.specs.Rounding.{figure, none}
 use Rattle.word.specs.Model.{numbers-from}
 use Rattle.word.specs.Answer.{Answer, refused, granted}
 use Rattle.orprob.specs.declared.Pair.{Pair}
-use Rattle.orprob.specs.declared.Combined.{Combined}
 use Rattle.orprob.specs.Combination.{answer, Encloses}
-use Rattle.orprob.specs.Promise.{answer-of, FaithfulOr}
+use Rattle.orprob.specs.Promise.{FaithfulOr}
 
 -- ---- the pairs given: the digits and the powers of lower 0, upper 0, lower 1, upper 1, and so on
 

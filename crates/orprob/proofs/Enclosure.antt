@@ -7,7 +7,7 @@ use native.Mathlib.Omega.{arith, patom, plit}
 use native.Mathlib.Nat.{le-trans}
 use lib.Dec.{lit≤}
 use lib.ListN.{length}
-use Rattle.fraction.specs.Fraction.{_≤ᶠ_, whole, ratio, _*ᶠ_}
+use Rattle.fraction.specs.Fraction.{_≤ᶠ_}
 use Rattle.fraction.proofs.Ratio.{Ratio, _≼_, ofℕ, _⊕_, _⊗_, _≈_, ≼-refl, ≼-trans, ≈-le, ≈-ge, ⊗-mono, ⊗-cancel, ⊗-zero, ofℕ-pos, zero-≼}
 use Rattle.fraction.proofs.Certificate.{_+'_, _*'_, prove, hyp}
 use Rattle.fraction.proofs.Inverse.{_over_, over-is}
@@ -19,7 +19,7 @@ use Rattle.figure.specs.Rounding.{none, value}
 use Rattle.figure.specs.Operations.{of-whole}
 use Rattle.figure.proofs.Value.{val, val-≼, below-value, above-value}
 use Rattle.word.specs.Faults.{outside}
-use Rattle.word.specs.Answer.{Answer, refused, granted}
+use Rattle.word.specs.Answer.{refused, granted}
 use Rattle.word.specs.Internal.Lists.{Each}
 use Rattle.word.proofs.Members.{each-monotone}
 use Rattle.word.proofs.Tests.{inside}

@@ -1,5 +1,5 @@
 -- The exact value, one subsystem after the other: what is left of 1 is the product of the complements. Assumes nothing.
-use mathlib.Core.Path.{_≡_, sym, _∙_, ap₂}
+use mathlib.Core.Path.{sym, _∙_, ap₂}
 use mathlib.Core.List.{List, [], _∷_, foldl, map}
 use native.Mathlib.Omega.{patom, plit}
 use Rattle.fraction.specs.Fraction.{whole, _-ᶠ_}

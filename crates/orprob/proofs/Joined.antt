@@ -1,12 +1,12 @@
 -- One subsystem more: s + p × (1 − s), rounded outward, against e + p × (1 − e). Each of the three operations costs one rounding, whatever the sign of
 -- the error of s: s + p × (1 − s) is p + s × (1 − p), which does not fall as s grows. Assumes nothing.
-use mathlib.Core.Path.{_≡_, refl, sym, _∙_}
+use mathlib.Core.Path.{_≡_, refl, _∙_}
 use mathlib.Core.Bool.{Bool, true, false, true≢false}
 use mathlib.Core.List.{[], _∷_}
 use Prim.Native.Nat.{ℕ, _+_, _*_, _≤_}
 use native.Mathlib.Omega.{arith, patom, plit}
 use lib.Dec.{lit≤}
-use Rattle.fraction.proofs.Ratio.{Ratio, _≼_, _≈_, ofℕ, _⊕_, _⊗_, _⊖_, ≼-refl, ≼-trans, ≈-refl, ≈-sym, ≈-trans, ≈-le, ≈-ge, ⊕-cong, ⊗-cong, ⊖-cong, ⊖-back, not-≼, ≼-⊗}
+use Rattle.fraction.proofs.Ratio.{Ratio, _≼_, _≈_, ofℕ, _⊕_, _⊗_, _⊖_, ≼-trans, ≈-refl, ≈-sym, ≈-le, ≈-ge, ⊖-cong, ⊖-back, not-≼, ≼-⊗}
 use Rattle.fraction.proofs.Certificate.{_+'_, _*'_, prove, equal, hyp}
 use Rattle.fraction.proofs.Within.{Within, within-≈, within-⊕, one-≼-grow}
 use Rattle.fraction.specs.Fraction.{_≤ᶠ_, whole}

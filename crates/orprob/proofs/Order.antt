@@ -1,6 +1,4 @@
 -- The exact value of the lowers is at most that of the uppers: the product of the complements falls as the probabilities grow. Assumes nothing.
-use mathlib.Core.Path.{_≡_, refl}
-use mathlib.Core.Bool.{Bool, true, false}
 use mathlib.Core.List.{List, [], _∷_, map}
 use native.Mathlib.Omega.{plit}
 use lib.Dec.{lit≤}

@@ -13,7 +13,7 @@ use mir.Syntax.{w32}
 use mir.Val.{SFits, toZ, ofZ}
 use mir.Facts.{toZ-ofZ}
 use borrow.Author.Tests.{ltb-true, ltb-false, le-leb, lt-leb}
-use Rattle.fraction.specs.Fraction.{Fraction, _≤ᶠ_, whole, at-most}
+use Rattle.fraction.specs.Fraction.{_≤ᶠ_, whole, at-most}
 use Rattle.fraction.proofs.Laws.{≤ᶠ-trans, at-most-iff, ≈ᶠ-≤, ≈ᶠ-≥}
 use Rattle.figure.specs.declared.Figure.{Figure}
 use Rattle.figure.specs.Rounding.{IsFigure, value}

@@ -1,19 +1,18 @@
 -- Document 02, Item 4: what a pair of figures is, and refusal 18. Assumes nothing: these are definitions.
-use Prim.Native.Nat.{ℕ, zero, suc}
+use Prim.Native.Nat.{ℕ, suc}
 use mathlib.Core.Path.{_≡_}
 use mathlib.Core.Bool.{Bool, true, false, _&&_}
 use mathlib.Core.List.{List, [], _∷_}
 use lib.IntN.{ℤ, pos, negsuc}
 use lib.Signed.{leZ, _≤ℤ_}
 use Rattle.fraction.specs.Fraction.{_≤ᶠ_, whole}
-use Rattle.figure.specs.declared.Figure.{Figure}
 use Rattle.figure.specs.Rounding.{IsFigure, value}
 use Rattle.figure.specs.Operations.{of-whole, at-or-below}
 use Rattle.figure.specs.Tested.{figure-test}
 use Rattle.word.specs.Answer.{Answer, refused}
 use Rattle.orprob.specs.declared.Pair.{Pair}
 
--- the power of ten is none "outside −2,000 to 2,000"
+-- the power of ten is none "outside −2,000 to 2,000"; `negsuc 1999` is −2,000
 unfoldable pub power-inside : ℤ → Bool
 power-inside p = leZ (negsuc 1999) p && leZ p (pos 2000)
 

@@ -1,6 +1,5 @@
 -- `pairs_given` meets its contract. The loop's invariant: the pairs before i are those given. Assumes nothing.
-use Prim.Native.Nat.{_-_, _≤_, _<_}
-use mathlib.Core.Path.{_≡_}
+use Prim.Native.Nat.{_-_, _≤_}
 use native.Mathlib.Omega.{arith}
 use borrow.Author.Needs.{needs}
 use Rattle.embed.proofs.Given.{Filled, filled-none, filled-more, filled-all}

@@ -1,9 +1,8 @@
 -- `both_sides` meets its contract. The loop's invariant: the pairs before i are combined. Assumes nothing.
-use Prim.Native.Nat.{_-_, _≤_, _<_}
-use mathlib.Core.Path.{_≡_, sym, _∙_}
-use mathlib.Core.Bool.{true}
+use Prim.Native.Nat.{_-_, _≤_}
+use mathlib.Core.Path.{_≡_}
 use native.Mathlib.Omega.{arith}
-use lib.ListN.{length, take}
+use lib.ListN.{length}
 use lib.Seq.{getD-take}
 use borrow.Author.Needs.{needs}
 use Rattle.figure.proofs.Sized.{sized-≤}

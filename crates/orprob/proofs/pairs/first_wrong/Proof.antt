@@ -1,13 +1,11 @@
 -- `first_wrong` meets its contract. The loop's invariant: those before i are pairs. Assumes nothing.
-use Prim.Native.Nat.{ℕ, _-_, _≤_, _<_}
+use Prim.Native.Nat.{_-_, _≤_}
 use mathlib.Core.Path.{_≡_, sym, _∙_}
-use mathlib.Core.Bool.{true, false}
 use native.Mathlib.Omega.{arith}
 use lib.ListN.{take}
 use borrow.Author.Needs.{needs}
 use borrow.Author.Tests.{not-true, not-false}
 use Rattle.orprob.specs.Pairs.{is-pair}
-use Rattle.orprob.specs.Internal.Parts.{pair-at}
 use Rattle.orprob.proofs.Turns.{Right, right-none, right-more, wrong-found, none-wrong}
 use Rattle.orprob.proofs.pairs.first_wrong.Statement.{statement}
 use Rattle.orprob.proofs.pairs.first_wrong.Tie as tie

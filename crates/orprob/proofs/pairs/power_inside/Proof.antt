@@ -1,5 +1,4 @@
 -- `power_inside` meets its contract. Assumes nothing.
-use borrow.Author.Needs.{needs}
 use Rattle.orprob.proofs.PairTests.{power-low, power-high}
 use Rattle.orprob.proofs.pairs.power_inside.Statement.{statement}
 use Rattle.orprob.proofs.pairs.power_inside.Tie as tie
