@@ -19,6 +19,7 @@ pub mod Figures
 pub mod Sized
 pub mod Gathered
 pub mod Products
+pub mod ProductsPinned
 pub mod Sums
 pub mod Quotients
 pub mod Wholes

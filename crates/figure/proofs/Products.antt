@@ -2,15 +2,16 @@
 use mathlib.Core.Path.{_≡_, refl, sym, _∙_, ap, ap₂}
 use mathlib.Core.List.{[], _∷_}
 use mathlib.Core.Bool.{Bool, true, false}
-use Prim.Native.Nat.{ℕ, suc-le-suc, _*_, _^_, _≤_, _<_}
-use native.Mathlib.Nat.{le-trans, mul-le-mul, zero-mul, mul-zero}
+use Prim.Native.Nat.{ℕ, suc-le-suc, _+_, _*_, _^_, _≤_, _<_}
+use native.Mathlib.Nat.{le-trans, mul-le-mul, zero-mul, mul-zero, lt-of-not-le}
+use native.Mathlib.Decide.{decLe}
 use native.Mathlib.Omega.{arith, patom}
-use lib.Dec.{ltb, lit≤}
+use lib.Dec.{ltb, leb, lit≤}
 use lib.IntN.{ℤ, pos, _+ℤ_}
 use lib.Signed.{mag}
 use mir.Syntax.{w64}
-use mir.Val.{Fits}
-use borrow.Author.Tests.{ltb-true, ltb-false, lt-ltb, le-ltb}
+use mir.Val.{Fits, boolByte}
+use borrow.Author.Tests.{ltb-true, ltb-false, lt-ltb, le-ltb, le-leb, lt-leb}
 use Rattle.fraction.specs.Fraction.{_*ᶠ_}
 use Rattle.fraction.proofs.Ratio.{_≈_, ofℕ, _⊗_, ≈-sym, ≈-trans, ⊗-cong, ofℕ-⊗}
 use Rattle.fraction.proofs.Certificate.{_*'_, same-value}
@@ -20,6 +21,7 @@ use Rattle.figure.specs.declared.division.Part.{Part}
 use Rattle.figure.specs.declared.product.Scaled.{Scaled}
 use Rattle.figure.specs.Rounding.{none, value}
 use Rattle.figure.specs.Operands.{Operand}
+use Rattle.figure.specs.Products.{product-divisor, eighteenth}
 use Rattle.figure.specs.Internal.Steps.{rounded, part, directed, scaling}
 use Rattle.figure.proofs.Scale.{pow-pos}
 use Rattle.figure.proofs.Value.{val}
@@ -31,13 +33,45 @@ use Rattle.figure.proofs.Figures.{digits-high, digits-low, room, rounde
 
 -- ---- the scaling
 
-pub scaling-low : (p : ℕ) {q : Part} → p < 10 ^ 17 → q ≡ part p (10 ^ 8) → record { part = q; dropped = pos 8 } ≡ scaling p
-unfolding scaling
-scaling-low p h e = rw e (sym (rw (lt-ltb p (10 ^ 17) h, scaling)))
+-- both are worked out from the one comparison
+pub eighteenth-high : (p : ℕ) → eighteenth p ≤ 1
+unfolding eighteenth
+eighteenth-high p = go (ltb p (10 ^ 17))
+  where
+    go : (b : Bool) → elim b as (λ _. ℕ) [ true ↦ 0 | false ↦ 1 ] ≤ 1
+    go true = lit≤ tt
+    go false = lit≤ tt
 
-pub scaling-high : (p : ℕ) {q : Part} → 10 ^ 17 ≤ p → q ≡ part p (10 ^ 9) → record { part = q; dropped = pos 9 } ≡ scaling p
+-- the comparison as a number
+pub eighteenth-is : (p : ℕ) → boolByte (leb 100000000000000000 p) ≡ eighteenth p
+unfolding eighteenth
+eighteenth-is p = go (decLe (10 ^ 17) p)
+  where
+    as-number : Bool → ℕ
+    as-number b = elim b as (λ _. ℕ) [ true ↦ 0 | false ↦ 1 ]
+
+    go : Dec (10 ^ 17 ≤ p) → boolByte (leb 100000000000000000 p) ≡ as-number (ltb p (10 ^ 17))
+    go (yes h) = ap boolByte (le-leb 100000000000000000 p h) ∙ sym (ap as-number (le-ltb p (10 ^ 17) h))
+    go (no h) = ap boolByte (lt-leb 100000000000000000 p (lt-of-not-le h)) ∙ sym (ap as-number (lt-ltb p (10 ^ 17) (lt-of-not-le h)))
+
+pub divisor-is : (p : ℕ) → 100000000 + 900000000 * eighteenth p ≡ product-divisor p
+unfolding eighteenth product-divisor
+divisor-is p = go (ltb p (10 ^ 17))
+  where
+    go : (b : Bool) → 100000000 + 900000000 * elim b as (λ _. ℕ) [ true ↦ 0 | false ↦ 1 ] ≡ elim b as (λ _. ℕ) [ true ↦ 100000000 | false ↦ 1000000000 ]
+    go true = refl
+    go false = refl
+
+pub divisor-some : (p : ℕ) → 0 < product-divisor p
+divisor-some p = rw (← divisor-is p) (omega arith)
+
+-- what the code has: one division, by the divisor that was worked out
+pub scaling-is : (p : ℕ) {d k : ℕ} {q : Part} {z : ℤ} → d ≡ product-divisor p → q ≡ part p d → k ≡ eighteenth p → z ≡ pos (8 + k)
+    → record { part = q; dropped = stored z } ≡ scaling p
 unfolding scaling
-scaling-high p h e = rw e (sym (rw (le-ltb p (10 ^ 17) h, scaling)))
+scaling-is p {z = z} d-is q-is k-is z-is =
+    let near : mag z ≤ 9 = rw (z-is, k-is) (omega (arith, eighteenth-high p)) in
+    λ i. record { part = (q-is ∙ ap (part p) d-is) i; dropped = (kept z (omega (arith, near)) ∙ z-is ∙ ap (λ (k : ℕ). pos (8 + k)) k-is) i }
 
 -- all that the product asks of it: nine digits of p, k more dropped
 record Nine (p : ℕ) (s : Scaled) : Type 0 where
@@ -49,13 +83,16 @@ record Nine (p : ℕ) (s : Scaled) : Type 0 where
   pub high : p < 10 * 10 ^ 8 * 10 ^ k
 
 scaling-nine : (p : ℕ) → 10 ^ 16 ≤ p → p < 10 ^ 18 → Nine p (scaling p)
-unfolding scaling
+unfolding scaling eighteenth product-divisor
 scaling-nine p l h = go (ltb p (10 ^ 17)) (ltb-true p (10 ^ 17)) (ltb-false p (10 ^ 17))
   where
-    at : ℕ → Scaled
-    at k = record { part = part p (10 ^ k); dropped = pos k }
+    at : Bool → Scaled
+    at b = record {
+      part = part p (elim b as (λ _. ℕ) [ true ↦ 100000000 | false ↦ 1000000000 ]);
+      dropped = pos (8 + elim b as (λ _. ℕ) [ true ↦ 0 | false ↦ 1 ]);
+    }
 
-    go : (b : Bool) → (b ≡ true → p < 10 ^ 17) → (b ≡ false → 10 ^ 17 ≤ p) → Nine p (elim b as (λ _. Scaled) [ true ↦ at 8 | false ↦ at 9 ])
+    go : (b : Bool) → (b ≡ true → p < 10 ^ 17) → (b ≡ false → 10 ^ 17 ≤ p) → Nine p (at b)
     go true f g = record { k = 8; few = lit≤ tt; dropped-is = refl; part-is = refl; low = l; high = f refl }
     go false f g = record { k = 9; few = lit≤ tt; dropped-is = refl; part-is = refl; low = g refl; high = h }
 

@@ -3,5 +3,7 @@ pub mod Operations
 pub mod Operands
 pub mod Losses
 pub mod Tested
+pub mod Products
+pub mod ProductsPinned
 pub mod Faithful
 pub mod Internal

@@ -1,8 +1,10 @@
 // Products of figures.
 ghost use mathlib.Core.Path.{_≡_};
+ghost use Prim.Native.Nat.{_≤_};
 ghost use Rattle.fraction.specs.Fraction.{_*ᶠ_};
 ghost use Rattle.figure.specs.Rounding.{value};
 ghost use Rattle.figure.specs.Operands.{Operand};
+ghost use Rattle.figure.specs.Products.{product-divisor, eighteenth};
 ghost use Rattle.figure.specs.Internal.Steps.{rounded, scaling};
 use crate::Figure;
 use crate::division;
@@ -15,16 +17,28 @@ struct Scaled {
     dropped: i32,
 }
 
-// A product of two figures that are not zero has 17 or 18 digits.
+// 1 for a product of 18 digits, 0 for one of 17: the comparison as a number.
+fn extra_digit(p: u64) -> usize
+    ensures { λ r. ⌜ r ≡ eighteenth p ⌝ }
+    ensures { λ r. ⌜ r ≤ 1 ⌝ }
+{
+    (100_000_000_000_000_000 <= p) as usize
+}
+
+// What a product is divided by, so that its first nine digits are left: worked out from the comparison, with no branch.
+fn divisor(p: u64) -> u64
+    ensures { λ r. ⌜ r ≡ product-divisor p ⌝ }
+{
+    100_000_000 + 900_000_000 * extra_digit(p) as u64
+}
+
+// A product of two figures that are not zero has 17 or 18 digits: one division leaves nine.
 fn nine_digits(p: u64) -> Scaled
     ensures { λ r. ⌜ r ≡ scaling p ⌝ }
 {
-    if p < 100_000_000_000_000_000 {
-        let part = division::parted(p, 100_000_000);
-        return Scaled { part, dropped: 8 };
-    }
-    let part = division::parted(p, 1_000_000_000);
-    Scaled { part, dropped: 9 }
+    let part = division::parted(p, divisor(p));
+    let dropped = powers::positive(8 + extra_digit(p));
+    Scaled { part, dropped }
 }
 
 // The product, rounded up or down.

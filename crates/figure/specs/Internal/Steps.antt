@@ -11,6 +11,7 @@ use Rattle.figure.specs.declared.division.Part.{Part}
 use Rattle.figure.specs.declared.product.Scaled.{Scaled}
 use Rattle.figure.specs.Rounding.{figure, none, up, down}
 use Rattle.figure.specs.Operands.{Sized}
+use Rattle.figure.specs.Products.{product-divisor, eighteenth}
 
 -- the two roundings as one, over the direction
 abbrev pub rounded : Bool → ℕ → Fraction → Figure
@@ -66,9 +67,9 @@ pub record Alignable (a b : Figure) : Type 0 where
 unfoldable pub aligned-sum : Figure → Figure → Part
 aligned-sum a b = part (a .digits * 10 ^ gap-of a b + b .digits) (10 ^ gap-of a b)
 
--- the first nine digits of a product of two figures that are not zero: it has 17 or 18
+-- the first nine digits of a product of two figures that are not zero, and how many more it has: one division (document 02, Item 5)
 unfoldable pub scaling : ℕ → Scaled
-scaling p = elim (ltb p (10 ^ 17)) [ true ↦ record { part = part p (10 ^ 8); dropped = pos 8 } | false ↦ record { part = part p (10 ^ 9); dropped = pos 9 } ]
+scaling p = record { part = part p (product-divisor p); dropped = pos (8 + eighteenth p) }
 
 -- a whole number of nine digits
 pub record NineDigits (n : ℕ) : Type 0 where
