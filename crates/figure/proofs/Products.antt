@@ -2,8 +2,8 @@
 use mathlib.Core.Path.{_≡_, refl, sym, _∙_, ap, ap₂}
 use mathlib.Core.List.{[], _∷_}
 use mathlib.Core.Bool.{Bool, true, false}
-use Prim.Native.Nat.{ℕ, suc-le-suc, _+_, _*_, _^_, _≤_, _<_}
-use native.Mathlib.Nat.{le-trans, mul-le-mul, zero-mul, mul-zero, lt-of-not-le}
+use Prim.Native.Nat.{ℕ, suc, suc-le-suc, _+_, _*_, _^_, _≤_, _<_}
+use native.Mathlib.Nat.{le-trans, mul-le-mul, mul-pos, zero-mul, mul-zero, lt-of-not-le, lt-irrefl, pow-succ'}
 use native.Mathlib.Decide.{decLe}
 use native.Mathlib.Omega.{arith, patom}
 use lib.Dec.{ltb, leb, lit≤}
@@ -19,11 +19,13 @@ use Rattle.fraction.proofs.PowersOfTen.{ten-to, ten-+}
 use Rattle.figure.specs.declared.Figure.{Figure}
 use Rattle.figure.specs.declared.division.Part.{Part}
 use Rattle.figure.specs.declared.product.Scaled.{Scaled}
-use Rattle.figure.specs.Rounding.{none, value}
+use Rattle.figure.specs.Rounding.{none, value, IsFigure, digit-count}
+use Rattle.figure.specs.Operations.{times-down}
 use Rattle.figure.specs.Operands.{Operand}
-use Rattle.figure.specs.Products.{product-divisor, eighteenth}
+use Rattle.figure.specs.Products.{product-divisor, eighteenth, Factors, SeventeenOrEighteen, divided-once, OneDivision}
 use Rattle.figure.specs.Internal.Steps.{rounded, part, directed, scaling}
-use Rattle.figure.proofs.Scale.{pow-pos}
+use Rattle.figure.proofs.Scale.{pow-pos, exponent-<}
+use Rattle.figure.proofs.Digits.{digits-above, digits-below}
 use Rattle.figure.proofs.Value.{val}
 use Rattle.figure.proofs.Operations.{value-times}
 use Rattle.figure.proofs.Stored.{stored, kept, kept-near, mag-sum, read-sum}
@@ -104,13 +106,34 @@ product-is a b =
     (patom 0 *' patom 1 *' (patom 2 *' patom 3)) (patom 0 *' patom 2 *' (patom 1 *' patom 3)) tt tt)
     (⊗-cong (≈-sym (ofℕ-⊗ (a .digits) (b .digits))) (≈-sym (ten-+ (a .power) (b .power))))
 
-module _ {a b : Figure} (oa : Operand 9 a) (ob : Operand 9 b) where
+module _ {a b : Figure} (fa : IsFigure 9 a) (fb : IsFigure 9 b) where
   product-small : a .digits * b .digits < 10 ^ 18
   product-small = le-trans (suc-le-suc (mul-le-mul {n₂ = 999999999} {m₂ = 999999999}
-      (omega (arith, digits-high (oa .is-figure))) (omega (arith, digits-high (ob .is-figure))))) (lit≤ tt)
+      (omega (arith, digits-high fa)) (omega (arith, digits-high fb)))) (lit≤ tt)
 
+  module _ (n : a .digits * b .digits ≡ 0 → ⊥) where
+    product-large : 10 ^ 16 ≤ a .digits * b .digits
+    product-large = mul-le-mul {n₁ = 100000000} {m₁ = 100000000}
+        (digits-low fa (λ z. n (rw z (zero-mul _)))) (digits-low fb (λ z. n (rw z (mul-zero _))))
+
+    product-nine : Nine (a .digits * b .digits) (scaling (a .digits * b .digits))
+    product-nine = scaling-nine (a .digits * b .digits) product-large product-small
+
+    -- the part by the one division, rounded, is the product rounded
+    product-rounded : (upward : Bool)
+        → directed upward 9 ((scaling (a .digits * b .digits)) .part) (a .power +ℤ b .power +ℤ (scaling (a .digits * b .digits)) .dropped)
+        ≡ rounded upward 9 (value a *ᶠ value b)
+    product-rounded upward = let nine = product-nine in
+        ap₂ (directed upward 9) (nine .part-is) (ap (λ (z : ℤ). a .power +ℤ b .power +ℤ z) (nine .dropped-is))
+        ∙ rounded-part 8 (pow-pos (nine .k)) (over-tens (a .digits * b .digits) (nine .k) (a .power +ℤ b .power) (product-is a b)) (nine .low)
+        (nine .high) upward
+        ∙ ap (rounded upward 9) (sym (value-times a b))
+
+-- ---- as the code has it
+
+module _ {a b : Figure} (oa : Operand 9 a) (ob : Operand 9 b) where
   pub product-fits : Fits w64 (a .digits * b .digits)
-  product-fits = omega (arith, product-small)
+  product-fits = omega (arith, product-small (oa .is-figure) (ob .is-figure))
 
   pub product-zero : (upward : Bool) → a .digits * b .digits ≡ 0 → none ≡ rounded upward 9 (value a *ᶠ value b)
   product-zero upward z = sym (ap (rounded upward 9) (value-times a b) ∙ rounded-zero upward 9 _ nothing)
@@ -118,15 +141,11 @@ module _ {a b : Figure} (oa : Operand 9 a) (ob : Operand 9 b) where
       nothing : (val a ⊗ val b) .num ≡ 0
       nothing = unfold _⊗_ ofℕ in omega (arith, ap (λ n. n * ((ten-to (a .power)) .num * (ten-to (b .power)) .num)) z)
 
-  product-large : (a .digits * b .digits ≡ 0 → ⊥) → 10 ^ 16 ≤ a .digits * b .digits
-  product-large n = mul-le-mul {n₁ = 100000000} {m₁ = 100000000}
-      (digits-low (oa .is-figure) (λ z. n (rw z (zero-mul _)))) (digits-low (ob .is-figure) (λ z. n (rw z (mul-zero _))))
-
-  -- the digits and the powers on the way, as the code has them
+  -- the digits and the powers on the way
   module _ {z : Scaled} {s : ℤ} (n : a .digits * b .digits ≡ 0 → ⊥) (z-is : z ≡ scaling (a .digits * b .digits))
       (s-is : s ≡ stored (a .power) +ℤ stored (b .power)) where
     nine : Nine (a .digits * b .digits) z
-    nine = rw z-is (scaling-nine (a .digits * b .digits) (product-large n) product-small)
+    nine = rw z-is (product-nine (oa .is-figure) (ob .is-figure) n)
 
     sum-is : s ≡ a .power +ℤ b .power
     sum-is = read-sum (a .power) (b .power) (room tt (oa .near)) (room tt (ob .near)) s-is
@@ -155,7 +174,45 @@ module _ {a b : Figure} (oa : Operand 9 a) (ob : Operand 9 b) where
 
       pub product-answer : (upward : Bool) {r : Figure} → r ≡ directed upward 9 (z .part) (stored u) → r ≡ rounded upward 9 (value a *ᶠ value b)
       product-answer upward e =
-          e ∙ ap₂ (directed upward 9) (nine .part-is) (kept u (omega (arith, total-near)) ∙ total-is ∙ ap₂ _+ℤ_ sum-is (nine .dropped-is))
-          ∙ rounded-part 8 (pow-pos (nine .k)) (over-tens (a .digits * b .digits) (nine .k) (a .power +ℤ b .power) (product-is a b)) (nine .low)
-          (nine .high) upward
-          ∙ ap (rounded upward 9) (sym (value-times a b))
+          e ∙ ap₂ (directed upward 9) (ap (λ (z : Scaled). z .part) z-is)
+          (kept u (omega (arith, total-near)) ∙ total-is ∙ ap₂ _+ℤ_ sum-is (ap (λ (z : Scaled). z .dropped) z-is))
+          ∙ product-rounded (oa .is-figure) (ob .is-figure) n upward
+
+-- ---- the laws of document 02, Item 5
+
+module _ {a b : Figure} (f : Factors a b) where
+  some-product : a .digits * b .digits ≡ 0 → ⊥
+  some-product z = lt-irrefl 0 (omega (arith, z, mul-pos (f .first-some) (f .second-some)))
+
+  product-count : digit-count (a .digits * b .digits) ≡ 17 + eighteenth (a .digits * b .digits)
+  unfolding eighteenth
+  product-count = go (ltb p (10 ^ 17)) (ltb-true p (10 ^ 17)) (ltb-false p (10 ^ 17))
+    where
+      p : ℕ
+      p = a .digits * b .digits
+
+      count : ℕ
+      count = digit-count p
+
+      low : 10 ^ 16 ≤ p
+      low = product-large (f .first) (f .second) some-product
+
+      high : p < 10 ^ 18
+      high = product-small (f .first) (f .second)
+
+      above : (k : ℕ) → 10 ^ k ≤ p → k < count
+      above k h = exponent-< k count (le-trans (suc-le-suc h) (digits-above p))
+
+      below : (k : ℕ) → p < 10 ^ k → count < suc k
+      below k h = exponent-< count (suc k) (rw (pow-succ' 10 k) (omega (arith, digits-below p (omega (arith, low)), h)))
+
+      go : (c : Bool) → (c ≡ true → p < 10 ^ 17) → (c ≡ false → 10 ^ 17 ≤ p) → count ≡ 17 + elim c as (λ _. ℕ) [ true ↦ 0 | false ↦ 1 ]
+      go true u v = omega (arith, above 16 low, below 17 (u refl))
+      go false u v = omega (arith, above 17 (v refl), below 18 high)
+
+pub seventeen-or-eighteen : SeventeenOrEighteen
+seventeen-or-eighteen a b f = product-count f
+
+pub one-division : OneDivision
+unfolding times-down divided-once scaling part directed
+one-division a b f = sym (product-rounded (f .first) (f .second) (some-product f) false)

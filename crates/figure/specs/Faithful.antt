@@ -9,6 +9,8 @@ use Rattle.figure.specs.declared.Figure.{Figure}
 use Rattle.figure.specs.Rounding.{none, value, IsUp, IsDown, up, down}
 use Rattle.figure.specs.Operations.{times-ten, of-whole, of-quantity}
 use Rattle.figure.specs.Losses.{keeps, whole-keeps, quantity-keeps}
+use Rattle.figure.specs.Products.{SeventeenOrEighteen, OneDivision}
+use Rattle.figure.specs.ProductsPinned.{ProductCasesAgree}
 
 -- ---- the roundings
 
@@ -101,3 +103,8 @@ pub record FaithfulFigures : Type 0 where
   -- 2, k, k + 1 and n, and a quantity of the table, are figures: making them figures loses nothing
   pub whole-kept : WholeKept
   pub quantity-kept : QuantityKept
+  -- document 02, Item 5: "A product of two figures that aren't zero has 17 or 18 digits", and "let there be one division"
+  pub seventeen-or-eighteen : SeventeenOrEighteen
+  pub one-division : OneDivision
+  -- products that were worked out by other hands
+  pub product-cases : ProductCasesAgree
