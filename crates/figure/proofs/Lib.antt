@@ -22,6 +22,7 @@ pub mod Products
 pub mod ProductsPinned
 pub mod Sums
 pub mod Quotients
+pub mod Reciprocals
 pub mod Wholes
 pub mod Totals
 pub mod Orders

@@ -5,5 +5,6 @@ pub mod Losses
 pub mod Tested
 pub mod Products
 pub mod ProductsPinned
+pub mod Reciprocals
 pub mod Faithful
 pub mod Internal

@@ -9,6 +9,7 @@ ghost use Rattle.figure.specs.Operations as ops;
 ghost use Rattle.figure.specs.Losses as losses;
 ghost use Rattle.figure.specs.Losses.{told};
 ghost use Rattle.figure.specs.Tested.{figure-test};
+ghost use Rattle.figure.specs.Reciprocals.{Reciprocates};
 ghost use Rattle.figure.specs.Internal.Ceiling.{Ceiling};
 
 mod ceiling;
@@ -17,10 +18,13 @@ mod division;
 mod powers;
 mod product;
 mod quotient;
+pub mod reciprocal;
 mod sum;
 mod telling;
 mod total;
 mod whole;
+
+use crate::reciprocal::Reciprocal;
 
 #[repr(C)]
 pub struct Figure {
@@ -207,6 +211,21 @@ impl Figure {
     {
         let figure = quotient::divided(false, self, other);
         telling::told(figure, quotient::divided(true, self, other))
+    }
+
+    // The quotient by a whole number from 1 to 25.
+    pub fn over_up(self, by: Reciprocal) -> Figure
+        requires { ⌜ Operand 9 self × Reciprocates by ⌝ }
+        ensures { λ r. ⌜ r ≡ ops.divided-up self (by .figure) ⌝ }
+    {
+        reciprocal::over(true, self, by)
+    }
+
+    pub fn over_down(self, by: Reciprocal) -> Figure
+        requires { ⌜ Operand 9 self × Reciprocates by ⌝ }
+        ensures { λ r. ⌜ r ≡ ops.divided-down self (by .figure) ⌝ }
+    {
+        reciprocal::over(false, self, by)
     }
 
     // Times ten to the power p, exactly.
