@@ -43,7 +43,7 @@ use Rattle.rows.proofs.table.note_death.Reads as note-death-reads
 use Rattle.rows.proofs.table.is_kept.Reads as is-kept-reads
 use Rattle.rows.proofs.table.is_open.Reads as is-open-reads
 use Rattle.bounds.proofs.marks.mark_ended.Reads as mark-ended-reads
-use Rattle.figure.proofs.Figure.of_whole.Reads as of-whole-reads
+use Rattle.figure.proofs.reciprocal.reciprocal_of.Reads as reciprocal-of-reads
 use Rattle.figure.proofs.Figure.zero.Reads as zero-reads
 use Rattle.model.proofs.index.exit_count.Reads as exit-count-reads
 use Rattle.bounds.proofs.walk.+walk.{statement}
@@ -60,8 +60,8 @@ walk-below t = and 4 walk-kinds.ps (falls 4 walk-kinds.ps _<_ μ-walk t) walk.Pr
 
 abbrev claims : ℕ → walk-lts.Claims
 claims t = (
-  of-whole-reads.Asked,
-  of-whole-reads.Learnt,
+  reciprocal-of-reads.Asked,
+  reciprocal-of-reads.Learnt,
   no-cache-reads.Asked,
   no-cache-reads.Learnt,
   exit-count-reads.Asked,
@@ -225,11 +225,11 @@ cut-mark : (t : ℕ) (c : CutMarked t) → let e = read-exit t (cut-tested t c) 
 cut-mark t c = ⊎-elim (λ d. marked-at (d .4) (d .3 .ensures))
     (λ d. marked-at (d .1) (upper-lost _ _ (sym (c .before .is-kept .ensures) ∙ d .0 .left) refl)) (c .if6 .came)
 
-walk-add-of-whole : (t : ℕ) → walk-lts.Need-add-of-whole (claims t) (walk-at t) walk.Post walk-Inv-loop walk-μ-loop
-walk-add-of-whole t c = omega (arith, ones-few (c .before .before .pre .1))
+walk-add-reciprocal-of : (t : ℕ) → walk-lts.Need-add-reciprocal-of (claims t) (walk-at t) walk.Post walk-Inv-loop walk-μ-loop
+walk-add-reciprocal-of t c = omega (arith, ones-few (c .before .before .pre .1))
 
-walk-of-whole-requires : (t : ℕ) → walk-lts.Need-of-whole-requires (claims t) (walk-at t) walk.Post walk-Inv-loop walk-μ-loop
-walk-of-whole-requires t c κs = search needs
+walk-reciprocal-of-requires : (t : ℕ) → walk-lts.Need-reciprocal-of-requires (claims t) (walk-at t) walk.Post walk-Inv-loop walk-μ-loop
+walk-reciprocal-of-requires t c κs = let few = ones-few (c .before .before .pre .1) in (omega arith, omega (arith, few))
 
 walk-no-cache-requires : (t : ℕ) → walk-lts.Need-no-cache-requires (claims t) (walk-at t) walk.Post walk-Inv-loop walk-μ-loop
 walk-no-cache-requires t c κs = tt
@@ -266,7 +266,7 @@ walk-exit-at-requires : (t : ℕ) → walk-lts.Need-exit-at-requires (claims t) 
 walk-exit-at-requires t c κs =
     let n = c .before .before .before in
     let o = n .before .before .before .before .before .before in
-    (exit-ready ((loop-begin t (n .before)) .pre .1) (more-at t n), o .of-whole .ensures)
+    (exit-ready ((loop-begin t (n .before)) .pre .1) (more-at t n), o .reciprocal-of .ensures)
 
 walk-array-read-before : (t : ℕ) → walk-lts.Need-array-read-before (claims t) (walk-at t) walk.Post walk-Inv-loop walk-μ-loop
 walk-array-read-before t c = let h = there-small (turn t (c .before .before)) in omega arith
@@ -291,7 +291,7 @@ walk-death-requires t c κs =
     let e = read-exit t (c .before) in
     let w = turn t e in
     let o = (exit-loop t e) .before .before .before .before .before in
-    ((last-step w, o .of-whole .ensures), w .kept .cached)
+    ((last-step w, o .reciprocal-of .ensures), w .kept .cached)
 
 walk-is-open-requires : (t : ℕ) → walk-lts.Need-is-open-requires (claims t) (walk-at t) walk.Post walk-Inv-loop walk-μ-loop
 walk-is-open-requires t c κs = tt
@@ -452,8 +452,8 @@ pub +walk-spec : {M : Type 1} → statement M
     walk.Post
     walk-Inv-loop
     walk-μ-loop
-    (walk-add-of-whole t)
-    (walk-of-whole-requires t)
+    (walk-add-reciprocal-of t)
+    (walk-reciprocal-of-requires t)
     (walk-no-cache-requires t)
     (walk-exit-count-requires t)
     (walk-loop-holds t)
