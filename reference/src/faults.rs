@@ -1,7 +1,7 @@
 //! Faults that can be planted on purpose, to show that the comparer finds them.
 //!
-//! Nothing is planted unless a program asks for it by [`plant`]; only `stream --fault NAME` and
-//! `or-stream --fault NAME` do.
+//! Nothing is planted unless a program asks for it by [`plant`]; only `stream --fault NAME`,
+//! `or-stream --fault NAME` and the tests of products do.
 
 use std::cell::Cell;
 use std::process::ExitCode;
@@ -74,6 +74,9 @@ pub enum Fault {
     HighestWithExits,
     NamedAfterTransition,
     BitTwelveIgnored,
+    EdgeProductShort,
+    ShortProductCut,
+    LongProductLow,
     LowerDifferenceUp,
     LowerProductUp,
     LowerSumUp,
@@ -187,6 +190,14 @@ pub const OF_REPORTS: [Known; 66] = [
     (Fault::BitTwelveIgnored, "bit-12-ignored", "bit 12 of a word that names a state may be set"),
 ];
 
+/// The faults of products (document 02, Item 5), which `stream` can plant too. A short product has
+/// 17 digits, a long one 18.
+pub const OF_PRODUCTS: [Known; 3] = [
+    (Fault::EdgeProductShort, "edge-product-short", "a product of 10^17 is divided as a short one"),
+    (Fault::ShortProductCut, "short-product-cut", "a short product is divided by 10^9 too"),
+    (Fault::LongProductLow, "long-product-low", "the power of a long product rises by 8, not 9"),
+];
+
 /// The faults of Item 4 of document 02, which `or-stream` can plant.
 pub const OF_OR: [Known; 30] = [
     (Fault::LowerDifferenceUp, "lower-difference-up", "a lower's 1 − s rounds up"),
@@ -230,22 +241,29 @@ pub fn plant(fault: Option<Fault>) {
     PLANTED.with(|cell| cell.set(fault));
 }
 
+/// The fault that is planted in this thread, if one is.
+#[inline]
+pub fn present() -> Option<Fault> {
+    PLANTED.with(Cell::get)
+}
+
 /// Whether a fault is planted in this thread.
 #[inline]
 pub fn planted(fault: Fault) -> bool {
-    PLANTED.with(|cell| cell.get() == Some(fault))
+    present() == Some(fault)
 }
 
-/// Reads the arguments of a program that can plant the faults of a list: none; `--fault NAME`, which
-/// plants one; or `--faults`, which lists them. The program ends with the code if there is one.
-pub fn read_arguments(program: &str, list: &[Known]) -> Option<ExitCode> {
+/// Reads the arguments of a program that can plant the faults of some lists: none; `--fault NAME`,
+/// which plants one; or `--faults`, which lists them. The program ends with the code if there is one.
+pub fn read_arguments(program: &str, lists: &[&[Known]]) -> Option<ExitCode> {
     let arguments: Vec<String> = std::env::args().skip(1).collect();
     let arguments: Vec<&str> = arguments.iter().map(String::as_str).collect();
-    let fault = |name: &str| list.iter().find(|known| known.1 == name).map(|known| known.0);
+    let known = lists.concat();
+    let fault = |name: &str| known.iter().find(|known| known.1 == name).map(|known| known.0);
     match arguments.as_slice() {
         [] => None,
         ["--faults"] => {
-            for (_, name, meaning) in list {
+            for (_, name, meaning) in &known {
                 println!("{name}: {meaning}");
             }
             Some(ExitCode::SUCCESS)

@@ -1,7 +1,7 @@
 //! Figures: zero, or a whole number of a fixed length times a power of ten. Each operation rounds
 //! once, and tells whether it kept the number as it was (document 02, Item 2).
 
-use crate::faults::{planted, Fault};
+use crate::faults::{planted, present, Fault};
 use crate::model::Quantity;
 use std::cmp::Ordering;
 use std::fmt;
@@ -98,7 +98,33 @@ impl<const LENGTH: u32> Decimal<LENGTH> {
 
     pub fn times(self, other: Self, side: Side) -> Marked<LENGTH> {
         let product = u128::from(self.digits) * u128::from(other.digits);
-        Self::rounded(product, self.power + other.power, false, side)
+        let power = self.power + other.power;
+        Self::faulty_product(product, power, side)
+            .unwrap_or_else(|| Self::rounded(product, power, false, side))
+    }
+
+    /// The product by a planted fault, if it is one of these and spoils this product.
+    fn faulty_product(product: u128, power: i32, side: Side) -> Option<Marked<LENGTH>> {
+        let fault = present()?;
+        let (least_long, gain_of_short) = (ten_to(2 * LENGTH - 1), LENGTH as i32 - 1);
+        match fault {
+            Fault::EdgeProductShort if product == least_long => {
+                // The quotient has a digit too many, and drops it without a carry.
+                let digits = ten_to(LENGTH - 1) as u64;
+                Some(Decimal { digits, power: power + gain_of_short }.kept())
+            }
+            Fault::ShortProductCut if (1..least_long).contains(&product) => {
+                // The quotient has a digit too few, and a zero makes up for it.
+                let (digits, rest) = divided(product, ten_to(LENGTH));
+                let digits = digits as u64 + u64::from(rest != 0 && side == Up);
+                let value = Self::carried(10 * digits, false, power + gain_of_short);
+                Some(Marked { value, kept: rest == 0 })
+            }
+            Fault::LongProductLow if product >= least_long => {
+                Some(Self::rounded(product, power - 1, false, side))
+            }
+            _ => None,
+        }
     }
 
     /// The quotient; the divisor is not zero.

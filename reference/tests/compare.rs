@@ -1,5 +1,6 @@
 //! The comparer: it agrees with itself, meets every refusal, and finds every planted fault.
 
+use reference::faults::{OF_PRODUCTS, OF_REPORTS};
 use std::process::{Command, Output};
 
 fn compare(options: &[&str]) -> Output {
@@ -36,7 +37,7 @@ fn agrees_with_itself_and_meets_every_answer() {
 
 #[test]
 fn finds_every_planted_fault() {
-    for (_, name, _) in reference::faults::OF_REPORTS {
+    for (_, name, _) in OF_REPORTS.into_iter().chain(OF_PRODUCTS) {
         let output = compare(&["--count", "20000", "--", "--fault", name]);
         let text = String::from_utf8_lossy(&output.stdout);
         assert_eq!(output.status.code(), Some(1), "{name}: {text}");

@@ -7,7 +7,7 @@ use std::io::{self, BufReader, BufWriter};
 use std::process::ExitCode;
 
 fn main() -> ExitCode {
-    if let Some(code) = faults::read_arguments("or-stream", &faults::OF_OR) {
+    if let Some(code) = faults::read_arguments("or-stream", &[&faults::OF_OR]) {
         return code;
     }
     let input = BufReader::new(io::stdin().lock());

@@ -7,7 +7,8 @@ use std::io::{self, BufReader, BufWriter, Write};
 use std::process::ExitCode;
 
 fn main() -> ExitCode {
-    if let Some(code) = faults::read_arguments("stream", &faults::OF_REPORTS) {
+    let lists: [&[_]; 2] = [&faults::OF_REPORTS, &faults::OF_PRODUCTS];
+    if let Some(code) = faults::read_arguments("stream", &lists) {
         return code;
     }
     match answer_all() {
