@@ -36,7 +36,7 @@ extern "C" {
 
 /* ---- The version: major * 1,000,000 + minor * 1,000 + patch. CHANGELOG.md says what each brought. */
 
-#define BOUNDS_VERSION 1005000
+#define BOUNDS_VERSION 1005001
 #define BOUNDS_MAJOR(version) ((int)((version) / 1000000))
 #define BOUNDS_MINOR(version) ((int)((version) / 1000 % 1000))
 #define BOUNDS_PATCH(version) ((int)((version) % 1000))

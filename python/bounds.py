@@ -32,7 +32,7 @@ from fractions import Fraction
 from pathlib import Path
 from typing import NamedTuple
 
-VERSION = 1005000  # major * 1,000,000 + minor * 1,000 + patch, as BOUNDS_VERSION in include/bounds.h
+VERSION = 1005001  # major * 1,000,000 + minor * 1,000 + patch, as BOUNDS_VERSION in include/bounds.h
 MOST_WORDS = 16105
 MOST_BUDGET = 1000000
 MOST_ROWS = 1000

@@ -8,9 +8,9 @@ use core::fmt;
 pub struct Version(pub u64);
 
 /// The version that this wrapper is written for, as `BOUNDS_VERSION` in the header.
-pub const VERSION: Version = Version(1_005_000);
+pub const VERSION: Version = Version(1_005_001);
 
-/// As `1.5.0`.
+/// As `1.5.1`.
 impl fmt::Display for Version {
     fn fmt(&self, out: &mut fmt::Formatter<'_>) -> fmt::Result {
         write!(out, "{}.{}.{}", self.0 / 1_000_000, self.0 / 1_000 % 1_000, self.0 % 1_000)

@@ -19,6 +19,26 @@ const TENS: [u64; 20] = {
     tens
 };
 
+/// The bits that a product by a reciprocal drops.
+const SHIFT: u32 = 34;
+
+/// A whole number from 1 to 25 as a figure, and what nine digits are multiplied by for their quotient by it: where they reach the figure's digits, and where
+/// they fall short of them.
+#[derive(Clone, Copy)]
+pub struct Reciprocal {
+    figure: Figure,
+    reached: u64,
+    short: u64,
+}
+
+impl Reciprocal {
+    pub fn of(k: u64) -> Reciprocal {
+        let lift = if k < 10 { 1 } else { 10 };
+        let scaled = |t: u64| (t << SHIFT).div_ceil(k);
+        Reciprocal { figure: Figure::whole(k), reached: scaled(lift), short: scaled(10 * lift) }
+    }
+}
+
 /// A quotient at a power, with one more where something was left and the side is up; `WIDTH` digits.
 fn rounded<const SIDE: bool, const WIDTH: usize>(whole: u64, left: bool, power: i32) -> Figure {
     if SIDE && left {
@@ -94,12 +114,12 @@ impl Figure {
         if product == 0 {
             return Figure::ZERO;
         }
-        // a divisor that the compiler knows, as in the proved library: a look-up of 10^8 or 10^9 would cost a division instruction
-        let power = self.power + other.power;
-        if product < TENS[17] {
-            return rounded::<SIDE, 9>(product / TENS[8], product % TENS[8] != 0, power + 8);
-        }
-        rounded::<SIDE, 9>(product / TENS[9], product % TENS[9] != 0, power + 9)
+        // one division, its divisor worked out from the comparison, as in the proved library (document 02, Item 5)
+        let extra = product >= TENS[17];
+        let divisor = TENS[8] + 9 * TENS[8] * u64::from(extra);
+        let power = self.power + other.power + 8 + i32::from(extra);
+        let whole = product / divisor;
+        rounded::<SIDE, 9>(whole, whole * divisor != product, power)
     }
 
     pub fn over<const SIDE: bool>(self, other: Figure) -> Figure {
@@ -110,6 +130,19 @@ impl Figure {
         let n = self.digits * TENS[zeros];
         let power = self.power - other.power - zeros as i32;
         rounded::<SIDE, 9>(n / other.digits, n % other.digits != 0, power)
+    }
+
+    /// The quotient by a small whole number, multiplied by its reciprocal, as in the proved library.
+    pub fn over_small<const SIDE: bool>(self, by: Reciprocal) -> Figure {
+        if self.digits == 0 {
+            return self;
+        }
+        let other = by.figure;
+        let reached = other.digits <= self.digits;
+        let zeros = if reached { 8 } else { 9 };
+        let whole = self.digits * if reached { by.reached } else { by.short } >> SHIFT;
+        let power = self.power - other.power - zeros as i32;
+        rounded::<SIDE, 9>(whole, whole * other.digits != self.digits * TENS[zeros], power)
     }
 
     pub fn plus<const SIDE: bool>(self, other: Figure) -> Figure {
@@ -152,12 +185,22 @@ impl Figure {
 
     /// A total with a figure added.
     pub fn total<const SIDE: bool>(self, figure: Figure) -> Figure {
-        let wide = if figure.digits == 0 {
-            figure
-        } else {
-            Figure { digits: figure.digits * TENS[9], power: figure.power - 9 }
-        };
-        sum::<SIDE, 18>(self, wide)
+        if figure.digits == 0 {
+            return self;
+        }
+        let wide = Figure { digits: figure.digits * TENS[9], power: figure.power - 9 };
+        if self.digits == 0 {
+            return wide;
+        }
+        let gap = self.power - wide.power;
+        if (0..10).contains(&gap) {
+            // the figure ends in nine zeros: nothing is divided
+            let whole = self.digits + figure.digits * TENS[9 - gap as usize];
+            return trimmed::<SIDE, 18>(whole, false, self.power);
+        }
+        let (large, small) = ordered(self, wide);
+        let (whole, left) = aligned(large, small);
+        trimmed::<SIDE, 18>(whole, left, large.power)
     }
 
     /// A total, to nine digits.

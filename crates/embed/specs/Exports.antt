@@ -94,4 +94,4 @@ version-number major minor patch = major * 1000000 + minor * 1000 + patch
 
 -- this version
 abbrev pub version : ℕ
-version = version-number 1 5 0
+version = version-number 1 5 1

@@ -178,5 +178,5 @@ pub extern "C" fn bounds_or(
 pub extern "C" fn bounds_version() -> u64
     ensures { λ r. ⌜ r ≡ version ⌝ }
 {
-    1_005_000
+    1_005_001
 }
