@@ -1,8 +1,8 @@
 -- The code's totals of eighteen digits, and its way from them to nine, are the roundings that are meant. Assumes nothing.
 use mathlib.Core.Path.{_≡_, refl, sym, _∙_, ap, ap₂}
 use mathlib.Core.Bool.{Bool, true, false}
-use Prim.Native.Nat.{ℕ, zero, suc, _+_, _-_, _*_, _/_, _%_, _^_, _≤_, _<_}
-use native.Mathlib.Nat.{le-trans, mul-le-mul, mul-le-mul-right, mul-pos, lt-irrefl, zero-lt-suc, div-le-self, div-add-mod', mod-lt}
+use Prim.Native.Nat.{ℕ, zero, suc, _+_, _-_, _*_, _^_, _≤_, _<_}
+use native.Mathlib.Nat.{le-trans, mul-le-mul, mul-le-mul-right, mul-pos, lt-irrefl}
 use lib.Pow.{pow-add}
 use native.Mathlib.Omega.{arith}
 use lib.Dec.{lit≤}
@@ -16,15 +16,15 @@ use Rattle.figure.specs.declared.Figure.{Figure}
 use Rattle.figure.specs.declared.division.Part.{Part}
 use Rattle.figure.specs.Rounding.{figure, none, value, IsFigure, is-zero, is-whole}
 use Rattle.figure.specs.Operands.{Operand, Sized}
-use Rattle.figure.specs.Internal.Steps.{rounded, Width, Ordered, part, shorter, directed, trimmed, gap-of, aligned-sum, widening, Alignable, Sum}
+use Rattle.figure.specs.Internal.Steps.{rounded, Width, Ordered, part, shorter, directed, trimmed, gap-of, aligned-sum, widening}
 use Rattle.figure.proofs.Scale.{pow-pos, pow-mono, ten-shift}
 use Rattle.figure.proofs.Value.{val, value-is}
 use Rattle.figure.proofs.Operations.{value-plus}
 use Rattle.figure.proofs.Stored.{stored, kept, mag-sum, mag-difference, read-sum, read-difference, gap-asks}
-use Rattle.figure.proofs.Parts.{parts, some, some-left, at-part, part-split, part-below, shorter-part, shorter-small}
+use Rattle.figure.proofs.Parts.{parts, at-part, part-below, shorter-part, shorter-small}
 use Rattle.figure.proofs.PartsRounded.{over-lift, rounded-part, rounded-trimmed}
 use Rattle.figure.proofs.Figures.{digits-high, digits-low, zero-is-none, room, sized-more, rounded-own, rounded-same, over-tens}
-use Rattle.figure.proofs.Sums.{aligned-small, alignable, sum-over, ordered, ordered-back, sum-answer, sum-swap, sum-zero}
+use Rattle.figure.proofs.Sums.{aligned-small, sum-over, ordered, sum-answer, sum-swap, sum-zero}
 
 pub nine : Width 9
 nine = record { some = lit≤ tt; most = lit≤ tt }
@@ -88,18 +88,18 @@ module _ {a : Figure} (o : Operand 9 a) where
       f ∙ ap (λ g. rounded upward 18 (value t +ᶠ value g)) e ∙ ap (rounded upward 18) (value-plus t (widening a))
       ∙ rounded-same upward 17 (⊕-cong (≈-refl (val t)) widening-value) ∙ ap (rounded upward 18) (sym (value-plus t a))
 
--- ---- a total with what reaches it of a figure
+-- ---- a figure that stands up to nine places below the total
 
 module _ (D d g : ℕ) {t : ℕ} (few : g < 10) (e : t ≡ 10 ^ (9 - g)) where
-  pub near-fits : D < 10 ^ 18 → d < 10 ^ 9 → Fits w64 (d * t) × Fits w64 (D + d * t)
-  near-fits D-high d-high = (omega (arith, high), omega (arith, high, D-high))
+  pub reached-fits : D < 10 ^ 18 → d < 10 ^ 9 → Fits w64 (d * t) × Fits w64 (D + d * t)
+  reached-fits D-high d-high = (omega (arith, high), omega (arith, high, D-high))
     where
       high : d * t ≤ 10 ^ 9 * 10 ^ 9
       high = rw e (mul-le-mul {n₂ = 10 ^ 9} {m₂ = 10 ^ 9} (omega (arith, d-high)) (pow-mono {i = 9 - g} {j = 9} (omega arith)))
 
   -- nine zeros are g of them, and nine less g
-  pub near-is : parts (D + d * t) false ≡ part (D * 10 ^ g + d * 10 ^ 9) (10 ^ g)
-  near-is = sym (at-part (D * 10 ^ g + d * 10 ^ 9) (10 ^ g) (D + d * t) 0 whole (pow-pos g))
+  pub reached-is : parts (D + d * t) false ≡ part (D * 10 ^ g + d * 10 ^ 9) (10 ^ g)
+  reached-is = sym (at-part (D * 10 ^ g + d * 10 ^ 9) (10 ^ g) (D + d * t) 0 whole (pow-pos g))
     where
       nine-zeros : 9 - g + g ≡ 9
       nine-zeros = omega (arith, few)
@@ -110,35 +110,9 @@ module _ (D d g : ℕ) {t : ℕ} (few : g < 10) (e : t ≡ 10 ^ (9 - g)) where
       whole : D * 10 ^ g + d * 10 ^ 9 ≡ (D + d * t) * 10 ^ g + 0
       whole = omega (arith, ap (λ n. d * n) zeros)
 
-module _ (D d g : ℕ) {p : Part} (far : 10 ≤ g) (e : p ≡ part d (10 ^ (g - 9))) where
-  pub far-fits : D < 10 ^ 18 → d < 10 ^ 9 → Fits w64 (D + p .whole)
-  far-fits D-high d-high = rw e (unfold part in omega (arith, D-high, d-high, div-le-self d (10 ^ (g - 9))))
-
-  -- nine zeros of the figure go against nine of the gap
-  pub far-is : parts (D + p .whole) (p .rest) ≡ part (D * 10 ^ g + d * 10 ^ 9) (10 ^ g)
-  far-is = rw (e ∙ part-split d (10 ^ (g - 9)) (pow-pos (g - 9)))
-      (sym (at-part (D * 10 ^ g + d * 10 ^ 9) (10 ^ g) (D + d / 10 ^ (g - 9)) (d % 10 ^ (g - 9) * 10 ^ 9) whole left
-      ∙ ap (parts (D + d / 10 ^ (g - 9))) (some-times (d % 10 ^ (g - 9)))))
-    where
-      zeros : 10 ^ (g - 9) * 10 ^ 9 ≡ 10 ^ g
-      zeros = sym (pow-add 10 (g - 9) 9) ∙ ap (λ n. 10 ^ n) back
-        where
-          back : g - 9 + 9 ≡ g
-          back = omega (arith, far)
-
-      whole : D * 10 ^ g + d * 10 ^ 9 ≡ (D + d / 10 ^ (g - 9)) * 10 ^ g + d % 10 ^ (g - 9) * 10 ^ 9
-      whole = rw (← zeros) (omega (arith, ap (λ n. n * 10 ^ 9) (div-add-mod' d (10 ^ (g - 9)))))
-
-      left : d % 10 ^ (g - 9) * 10 ^ 9 < 10 ^ g
-      left = rw (← zeros) (omega (arith, mul-le-mul-right (10 ^ 9) (mod-lt d (pow-pos (g - 9)))))
-
-      some-times : (r : ℕ) → some (r * 10 ^ 9) ≡ some r
-      some-times zero = refl
-      some-times (suc r) = some-left {r = suc r * 10 ^ 9} (omega arith) ∙ sym (some-left (zero-lt-suc r))
-
 -- the code's sum of a total and a figure
 module _ {t a w : Figure} (ot : Operand 18 t) (oa : Operand 9 a) (w-is : w ≡ widening a) where
-  wide-sized : Sized 18 200000 w
+  pub wide-sized : Sized 18 200000 w
   wide-sized = rw w-is (widening-sized oa)
 
   pub added-to-none : (upward : Bool) → t .digits ≡ 0 → w ≡ rounded upward 18 (value t +ᶠ value a)
@@ -147,53 +121,30 @@ module _ {t a w : Figure} (ot : Operand 18 t) (oa : Operand 9 a) (w-is : w ≡ w
   pub none-added : (upward : Bool) → a .digits ≡ 0 → t ≡ rounded upward 18 (value t +ᶠ value a)
   none-added upward z = sum-zero upward eighteen a t z (ot .is-figure) ∙ sum-swap upward eighteen t a
 
-  module _ (st : 0 < t .digits) (sa : 0 < a .digits) where
-    none-left : {n : ℕ} → 0 < n → n ≡ 0 → ⊥
-    none-left h z = lt-irrefl 0 (rw z at h)
-
+  module _ (nt : t .digits ≡ 0 → ⊥) (na : a .digits ≡ 0 → ⊥) (le : leZ (stored (w .power)) (stored (t .power)) ≡ true) where
     wide-digits : w .digits ≡ a .digits * 10 ^ 9
-    wide-digits = ap (λ (f : Figure). f .digits) (w-is ∙ widening-whole a (none-left sa))
+    wide-digits = ap (λ (f : Figure). f .digits) (w-is ∙ widening-whole a na)
 
-    wide-some : w .digits ≡ 0 → ⊥
-    wide-some z = none-left sa (omega (arith, z, wide-digits))
+    in-reach : Ordered 18 t w
+    in-reach = ordered (sized-more ot) wide-sized nt (λ z. na (omega (arith, z, wide-digits))) le
 
-    -- where the figure stands below the total
-    module _ (le : leZ (stored (w .power)) (stored (t .power)) ≡ true) where
-      below : Ordered 18 t w
-      below = ordered (sized-more ot) wide-sized (none-left st) wide-some le
+    pub gap-ready : (mag (stored (t .power)) ≤ 1000000000) × (mag (stored (w .power)) ≤ 1000000000) × (stored (w .power) ≤ℤ stored (t .power))
+    gap-ready = gap-asks (in-reach .order) (room tt (in-reach .first .near)) (room tt (in-reach .second .near))
 
-      pub gap-ready : (mag (stored (t .power)) ≤ 1000000000) × (mag (stored (w .power)) ≤ 1000000000) × (stored (w .power) ≤ℤ stored (t .power))
-      gap-ready = gap-asks (below .order) (room tt (below .first .near)) (room tt (below .second .near))
-
-      pub sum-below : {g : ℕ} {p : Part} → pos g ≡ stored (t .power) -ℤ stored (w .power)
-          → p ≡ part (t .digits * 10 ^ g + a .digits * 10 ^ 9) (10 ^ g) → Sum t a (record { part = p; power = stored (t .power) })
+    module _ {g : ℕ} {p : Part} (g-is : pos g ≡ stored (t .power) -ℤ stored (w .power))
+        (p-is : p ≡ part (t .digits * 10 ^ g + a .digits * 10 ^ 9) (10 ^ g)) where
+      reached-sum : p ≡ aligned-sum t w
       unfolding aligned-sum
-      sum-below {g} {p} g-is p-is = record {
-        small = aligned-small below aligned-is;
-        near = rw (kept (t .power) (omega (arith, ot .near))) (omega (arith, ot .near));
-        is = λ upward. total-answer oa upward t w-is (sum-answer upward eighteen below aligned-is refl);
-      }
+      reached-sum = p-is ∙ ap₂ (λ (n d : ℕ). part (t .digits * 10 ^ n + d) (10 ^ n)) gap-is (sym wide-digits)
         where
           gap-is : g ≡ gap-of t w
-          gap-is = ap natAbs (read-difference (t .power) (w .power) (room tt (below .first .near)) (room tt (below .second .near)) g-is)
+          gap-is = ap natAbs (read-difference (t .power) (w .power) (room tt (in-reach .first .near)) (room tt (in-reach .second .near)) g-is)
 
-          aligned-is : p ≡ aligned-sum t w
-          aligned-is = p-is ∙ ap₂ (λ (n d : ℕ). part (t .digits * 10 ^ n + d) (10 ^ n)) gap-is (sym wide-digits)
+      pub reached-small : p .whole < 10 * 10 ^ 18
+      reached-small = aligned-small in-reach reached-sum
 
-    -- where it stands above it
-    module _ (le : leZ (stored (w .power)) (stored (t .power)) ≡ false) where
-      above : Ordered 18 w t
-      above = ordered-back (sized-more ot) wide-sized (none-left st) wide-some le
-
-      pub above-alignable : Alignable w t
-      above-alignable = alignable eighteen above
-
-      pub sum-above : {p : Part} → p ≡ aligned-sum w t → Sum t a (record { part = p; power = stored (w .power) })
-      sum-above p-is = record {
-        small = aligned-small above p-is;
-        near = rw (kept (w .power) (omega (arith, wide-sized .near))) (omega (arith, wide-sized .near));
-        is = λ upward. total-answer oa upward t w-is (sum-answer upward eighteen above p-is refl ∙ sum-swap upward eighteen t w);
-      }
+      pub reached-answer : (upward : Bool) {r : Figure} → r ≡ trimmed upward 18 p (stored (t .power)) → r ≡ rounded upward 18 (value t +ᶠ value a)
+      reached-answer upward e = total-answer oa upward t w-is (sum-answer upward eighteen in-reach reached-sum e)
 
 -- ---- a power raised by nine
 

@@ -51,7 +51,7 @@ pub(crate) fn aligned(large: Figure, small: Figure) -> Part
 }
 
 // n over 10^k, for every k.
-pub(crate) fn lowered(n: u64, k: usize) -> Part
+fn lowered(n: u64, k: usize) -> Part
     requires { ⌜ n < 10 ^ 18 ⌝ }
     ensures { λ r. ⌜ r ≡ part n (10 ^ k) ⌝ }
 {

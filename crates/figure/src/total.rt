@@ -4,7 +4,7 @@ ghost use Prim.Native.Nat.{_+_, _*_, _^_, _<_};
 ghost use Rattle.fraction.specs.Fraction.{_+ᶠ_};
 ghost use Rattle.figure.specs.Rounding.{value};
 ghost use Rattle.figure.specs.Operands.{Operand};
-ghost use Rattle.figure.specs.Internal.Steps.{rounded, Ordered, part, widening, Sum};
+ghost use Rattle.figure.specs.Internal.Steps.{rounded, Ordered, part, widening};
 use crate::Figure;
 use crate::division;
 use crate::division::Part;
@@ -24,41 +24,14 @@ pub(crate) fn widened(a: Figure) -> Figure
     Figure { digits, power }
 }
 
-// A total with what of a figure reaches its last digit, where the figure with eighteen digits stands so far below it. It then ends in nine zeros, so that
-// nothing is divided up to a gap of nine.
+// The sum of a total and a figure that, with eighteen digits, stands up to nine places below it. It then ends in nine zeros: nothing of it is lost, and
+// nothing need be divided.
 fn reached(t: Figure, a: Figure, gap: usize) -> Part
-    requires { ⌜ (t .digits < 10 ^ 18) × (a .digits < 10 ^ 9) ⌝ }
+    requires { ⌜ (t .digits < 10 ^ 18) × (a .digits < 10 ^ 9) × (gap < 10) ⌝ }
     ensures { λ r. ⌜ r ≡ part (t .digits * 10 ^ gap + a .digits * 10 ^ 9) (10 ^ gap) ⌝ }
 {
-    if gap < 10 {
-        let whole = t.digits + a.digits * powers::ten_to(9 - gap);
-        return Part { whole, rest: false };
-    }
-    let part = sum::lowered(a.digits, gap - 9);
-    let whole = t.digits + part.whole;
-    let rest = part.rest;
-    Part { whole, rest }
-}
-
-// A sum before it is rounded, in units of the higher power of the two.
-struct ExactSum {
-    part: Part,
-    power: i32,
-}
-
-// The sum of a total and a figure, neither of them zero, before it is rounded; `wide` is the figure with eighteen digits.
-fn unrounded(t: Figure, a: Figure, wide: Figure) -> ExactSum
-    requires { ⌜ Operand 18 t × Operand 9 a × (wide ≡ widening a) × (0 < t .digits) × (0 < a .digits) ⌝ }
-    ensures { λ r. ⌜ Sum t a r ⌝ }
-{
-    if wide.power <= t.power {
-        let power = t.power;
-        let part = reached(t, a, powers::gap(power, wide.power));
-        return ExactSum { part, power };
-    }
-    let part = sum::aligned(wide, t);
-    let power = wide.power;
-    ExactSum { part, power }
+    let whole = t.digits + a.digits * powers::ten_to(9 - gap);
+    Part { whole, rest: false }
 }
 
 // A total with a figure of nine digits added, rounded up or down.
@@ -73,10 +46,15 @@ pub(crate) fn added(upward: bool, t: Figure, a: Figure) -> Figure
     if a.digits == 0 {
         return t;
     }
-    let s = unrounded(t, a, wide);
-    let part = s.part;
-    let power = s.power;
-    division::trimmed(upward, 18, part, power)
+    if wide.power <= t.power {
+        let power = t.power;
+        let gap = powers::gap(power, wide.power);
+        if gap < 10 {
+            let part = reached(t, a, gap);
+            return division::trimmed(upward, 18, part, power);
+        }
+    }
+    sum::plus(upward, 18, t, wide)
 }
 
 // A total, rounded up or down to nine digits.

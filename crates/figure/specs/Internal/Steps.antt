@@ -6,12 +6,11 @@ use Prim.Native.Nat.{ℕ, zero, suc, _+_, _-_, _*_, _/_, _^_, _≤_, _<_}
 use lib.Dec.{ltb, eqb}
 use lib.IntN.{ℤ, pos, natAbs, _+ℤ_, _-ℤ_}
 use lib.Signed.{mag, _≤ℤ_}
-use Rattle.fraction.specs.Fraction.{Fraction, _+ᶠ_}
+use Rattle.fraction.specs.Fraction.{Fraction}
 use Rattle.figure.specs.declared.Figure.{Figure}
 use Rattle.figure.specs.declared.division.Part.{Part}
 use Rattle.figure.specs.declared.product.Scaled.{Scaled}
-use Rattle.figure.specs.declared.total.ExactSum.{ExactSum}
-use Rattle.figure.specs.Rounding.{figure, none, value, up, down}
+use Rattle.figure.specs.Rounding.{figure, none, up, down}
 use Rattle.figure.specs.Operands.{Sized}
 use Rattle.figure.specs.Products.{product-divisor, eighteenth}
 
@@ -105,9 +104,3 @@ just-below upward a = elim (eqb (a .digits) (10 ^ 8)) [
 -- a figure of nine digits, with eighteen
 unfoldable pub widening : Figure → Figure
 widening a = elim (a .digits) [ zero ↦ none | suc d ↦ figure (suc d * 10 ^ 9) (a .power -ℤ pos 9) ]
-
--- rounding it gives the sum of a total and a figure, rounded
-pub record Sum (t a : Figure) (s : ExactSum) : Type 0 where
-  pub small : s .part .whole < 10 * 10 ^ 18
-  pub near : mag (s .power) ≤ 900000
-  pub is : (upward : Bool) → trimmed upward 18 (s .part) (s .power) ≡ rounded upward 18 (value t +ᶠ value a)
