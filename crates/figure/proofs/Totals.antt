@@ -1,13 +1,12 @@
 -- The code's totals of eighteen digits, and its way from them to nine, are the roundings that are meant. Assumes nothing.
 use mathlib.Core.Path.{_≡_, refl, sym, _∙_, ap, ap₂}
-use mathlib.Core.Bool.{Bool, true, false}
-use Prim.Native.Nat.{ℕ, zero, suc, _+_, _-_, _*_, _^_, _≤_, _<_}
-use native.Mathlib.Nat.{le-trans, mul-le-mul, mul-le-mul-right, mul-pos, lt-irrefl}
-use lib.Pow.{pow-add}
+use mathlib.Core.Bool.{Bool}
+use Prim.Native.Nat.{ℕ, zero, suc, _+_, _*_, _^_, _≤_, _<_}
+use native.Mathlib.Nat.{le-trans, mul-le-mul-right, mul-pos, lt-irrefl}
 use native.Mathlib.Omega.{arith}
 use lib.Dec.{lit≤}
-use lib.IntN.{ℤ, pos, natAbs, _+ℤ_, _-ℤ_}
-use lib.Signed.{mag, leZ, _≤ℤ_}
+use lib.IntN.{ℤ, pos, _+ℤ_, _-ℤ_}
+use lib.Signed.{mag}
 use mir.Syntax.{w64}
 use mir.Val.{Fits}
 use Rattle.fraction.specs.Fraction.{_+ᶠ_}
@@ -17,14 +16,14 @@ use Rattle.figure.specs.declared.division.Part.{Part}
 use Rattle.figure.specs.Rounding.{figure, none, value, IsFigure, is-zero, is-whole}
 use Rattle.figure.specs.Operands.{Operand, Sized}
 use Rattle.figure.specs.Internal.Steps.{rounded, Width, Ordered, part, shorter, directed, trimmed, gap-of, aligned-sum, widening}
-use Rattle.figure.proofs.Scale.{pow-pos, pow-mono, ten-shift}
+use Rattle.figure.proofs.Scale.{pow-pos, ten-shift}
 use Rattle.figure.proofs.Value.{val, value-is}
 use Rattle.figure.proofs.Operations.{value-plus}
-use Rattle.figure.proofs.Stored.{stored, kept, mag-sum, mag-difference, read-sum, read-difference, gap-asks}
-use Rattle.figure.proofs.Parts.{parts, at-part, part-below, shorter-part, shorter-small}
+use Rattle.figure.proofs.Stored.{stored, kept, mag-sum, mag-difference, read-sum, read-difference}
+use Rattle.figure.proofs.Parts.{part-below, shorter-part, shorter-small}
 use Rattle.figure.proofs.PartsRounded.{over-lift, rounded-part, rounded-trimmed}
-use Rattle.figure.proofs.Figures.{digits-high, digits-low, zero-is-none, room, sized-more, rounded-own, rounded-same, over-tens}
-use Rattle.figure.proofs.Sums.{aligned-small, sum-over, ordered, sum-answer, sum-swap, sum-zero}
+use Rattle.figure.proofs.Figures.{digits-high, digits-low, zero-is-none, room, rounded-own, rounded-same, over-tens}
+use Rattle.figure.proofs.Sums.{aligned-small, sum-over}
 
 pub nine : Width 9
 nine = record { some = lit≤ tt; most = lit≤ tt }
@@ -87,64 +86,6 @@ module _ {a : Figure} (o : Operand 9 a) where
   total-answer upward t e f =
       f ∙ ap (λ g. rounded upward 18 (value t +ᶠ value g)) e ∙ ap (rounded upward 18) (value-plus t (widening a))
       ∙ rounded-same upward 17 (⊕-cong (≈-refl (val t)) widening-value) ∙ ap (rounded upward 18) (sym (value-plus t a))
-
--- ---- a figure that stands up to nine places below the total
-
-module _ (D d g : ℕ) {t : ℕ} (few : g < 10) (e : t ≡ 10 ^ (9 - g)) where
-  pub reached-fits : D < 10 ^ 18 → d < 10 ^ 9 → Fits w64 (d * t) × Fits w64 (D + d * t)
-  reached-fits D-high d-high = (omega (arith, high), omega (arith, high, D-high))
-    where
-      high : d * t ≤ 10 ^ 9 * 10 ^ 9
-      high = rw e (mul-le-mul {n₂ = 10 ^ 9} {m₂ = 10 ^ 9} (omega (arith, d-high)) (pow-mono {i = 9 - g} {j = 9} (omega arith)))
-
-  -- nine zeros are g of them, and nine less g
-  pub reached-is : parts (D + d * t) false ≡ part (D * 10 ^ g + d * 10 ^ 9) (10 ^ g)
-  reached-is = sym (at-part (D * 10 ^ g + d * 10 ^ 9) (10 ^ g) (D + d * t) 0 whole (pow-pos g))
-    where
-      nine-zeros : 9 - g + g ≡ 9
-      nine-zeros = omega (arith, few)
-
-      zeros : t * 10 ^ g ≡ 10 ^ 9
-      zeros = ap (λ n. n * 10 ^ g) e ∙ sym (pow-add 10 (9 - g) g) ∙ ap (λ n. 10 ^ n) nine-zeros
-
-      whole : D * 10 ^ g + d * 10 ^ 9 ≡ (D + d * t) * 10 ^ g + 0
-      whole = omega (arith, ap (λ n. d * n) zeros)
-
--- the code's sum of a total and a figure
-module _ {t a w : Figure} (ot : Operand 18 t) (oa : Operand 9 a) (w-is : w ≡ widening a) where
-  pub wide-sized : Sized 18 200000 w
-  wide-sized = rw w-is (widening-sized oa)
-
-  pub added-to-none : (upward : Bool) → t .digits ≡ 0 → w ≡ rounded upward 18 (value t +ᶠ value a)
-  added-to-none upward z = total-answer oa upward t w-is (sum-zero upward eighteen t w z (wide-sized .is-figure))
-
-  pub none-added : (upward : Bool) → a .digits ≡ 0 → t ≡ rounded upward 18 (value t +ᶠ value a)
-  none-added upward z = sum-zero upward eighteen a t z (ot .is-figure) ∙ sum-swap upward eighteen t a
-
-  module _ (nt : t .digits ≡ 0 → ⊥) (na : a .digits ≡ 0 → ⊥) (le : leZ (stored (w .power)) (stored (t .power)) ≡ true) where
-    wide-digits : w .digits ≡ a .digits * 10 ^ 9
-    wide-digits = ap (λ (f : Figure). f .digits) (w-is ∙ widening-whole a na)
-
-    in-reach : Ordered 18 t w
-    in-reach = ordered (sized-more ot) wide-sized nt (λ z. na (omega (arith, z, wide-digits))) le
-
-    pub gap-ready : (mag (stored (t .power)) ≤ 1000000000) × (mag (stored (w .power)) ≤ 1000000000) × (stored (w .power) ≤ℤ stored (t .power))
-    gap-ready = gap-asks (in-reach .order) (room tt (in-reach .first .near)) (room tt (in-reach .second .near))
-
-    module _ {g : ℕ} {p : Part} (g-is : pos g ≡ stored (t .power) -ℤ stored (w .power))
-        (p-is : p ≡ part (t .digits * 10 ^ g + a .digits * 10 ^ 9) (10 ^ g)) where
-      reached-sum : p ≡ aligned-sum t w
-      unfolding aligned-sum
-      reached-sum = p-is ∙ ap₂ (λ (n d : ℕ). part (t .digits * 10 ^ n + d) (10 ^ n)) gap-is (sym wide-digits)
-        where
-          gap-is : g ≡ gap-of t w
-          gap-is = ap natAbs (read-difference (t .power) (w .power) (room tt (in-reach .first .near)) (room tt (in-reach .second .near)) g-is)
-
-      pub reached-small : p .whole < 10 * 10 ^ 18
-      reached-small = aligned-small in-reach reached-sum
-
-      pub reached-answer : (upward : Bool) {r : Figure} → r ≡ trimmed upward 18 p (stored (t .power)) → r ≡ rounded upward 18 (value t +ᶠ value a)
-      reached-answer upward e = total-answer oa upward t w-is (sum-answer upward eighteen in-reach reached-sum e)
 
 -- ---- a power raised by nine
 

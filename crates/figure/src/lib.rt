@@ -270,30 +270,32 @@ impl Figure {
         requires { ⌜ Operand 18 self × Operand 9 a ⌝ }
         ensures { λ r. ⌜ r ≡ ops.total-up self a ⌝ }
     {
-        total::added(true, self, a)
+        sum::plus(true, 18, self, total::widened(a))
     }
 
     pub fn total_up_telling(self, a: Figure) -> Rounded
         requires { ⌜ Operand 18 self × Operand 9 a ⌝ }
         ensures { λ r. ⌜ r ≡ told (ops.total-up self a) (losses.total-keeps self a) ⌝ }
     {
-        let figure = total::added(true, self, a);
-        telling::told(figure, total::added(false, self, a))
+        let wide = total::widened(a);
+        let figure = sum::plus(true, 18, self, wide);
+        telling::told(figure, sum::plus(false, 18, self, wide))
     }
 
     pub fn total_down(self, a: Figure) -> Figure
         requires { ⌜ Operand 18 self × Operand 9 a ⌝ }
         ensures { λ r. ⌜ r ≡ ops.total-down self a ⌝ }
     {
-        total::added(false, self, a)
+        sum::plus(false, 18, self, total::widened(a))
     }
 
     pub fn total_down_telling(self, a: Figure) -> Rounded
         requires { ⌜ Operand 18 self × Operand 9 a ⌝ }
         ensures { λ r. ⌜ r ≡ told (ops.total-down self a) (losses.total-keeps self a) ⌝ }
     {
-        let figure = total::added(false, self, a);
-        telling::told(figure, total::added(true, self, a))
+        let wide = total::widened(a);
+        let figure = sum::plus(false, 18, self, wide);
+        telling::told(figure, sum::plus(true, 18, self, wide))
     }
 
     // A total, to nine digits.

@@ -1,13 +1,12 @@
 // Totals: eighteen digits.
 ghost use mathlib.Core.Path.{_≡_};
-ghost use Prim.Native.Nat.{_+_, _*_, _^_, _<_};
+ghost use Prim.Native.Nat.{_*_};
 ghost use Rattle.fraction.specs.Fraction.{_+ᶠ_};
 ghost use Rattle.figure.specs.Rounding.{value};
 ghost use Rattle.figure.specs.Operands.{Operand};
-ghost use Rattle.figure.specs.Internal.Steps.{rounded, Ordered, part, widening};
+ghost use Rattle.figure.specs.Internal.Steps.{rounded, Ordered, widening};
 use crate::Figure;
 use crate::division;
-use crate::division::Part;
 use crate::powers;
 use crate::sum;
 
@@ -22,39 +21,6 @@ pub(crate) fn widened(a: Figure) -> Figure
     let digits = a.digits * 1_000_000_000;
     let power = powers::difference(a.power, 9);
     Figure { digits, power }
-}
-
-// The sum of a total and a figure that, with eighteen digits, stands up to nine places below it. It then ends in nine zeros: nothing of it is lost, and
-// nothing need be divided.
-fn reached(t: Figure, a: Figure, gap: usize) -> Part
-    requires { ⌜ (t .digits < 10 ^ 18) × (a .digits < 10 ^ 9) × (gap < 10) ⌝ }
-    ensures { λ r. ⌜ r ≡ part (t .digits * 10 ^ gap + a .digits * 10 ^ 9) (10 ^ gap) ⌝ }
-{
-    let whole = t.digits + a.digits * powers::ten_to(9 - gap);
-    Part { whole, rest: false }
-}
-
-// A total with a figure of nine digits added, rounded up or down.
-pub(crate) fn added(upward: bool, t: Figure, a: Figure) -> Figure
-    requires { ⌜ Operand 18 t × Operand 9 a ⌝ }
-    ensures { λ r. ⌜ r ≡ rounded upward 18 (value t +ᶠ value a) ⌝ }
-{
-    let wide = widened(a);
-    if t.digits == 0 {
-        return wide;
-    }
-    if a.digits == 0 {
-        return t;
-    }
-    if wide.power <= t.power {
-        let power = t.power;
-        let gap = powers::gap(power, wide.power);
-        if gap < 10 {
-            let part = reached(t, a, gap);
-            return division::trimmed(upward, 18, part, power);
-        }
-    }
-    sum::plus(upward, 18, t, wide)
 }
 
 // A total, rounded up or down to nine digits.
