@@ -14,6 +14,7 @@ pub mod Faithful
 pub mod Reach
 pub mod Stored
 pub mod Parts
+pub mod Arms
 pub mod PartsRounded
 pub mod Figures
 pub mod Sized

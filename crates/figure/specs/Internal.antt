@@ -2,3 +2,4 @@ pub mod Steps
 pub mod Telling
 pub mod Gathered
 pub mod Ceiling
+pub mod Reciprocals

@@ -5,6 +5,5 @@ pub mod Losses
 pub mod Tested
 pub mod Products
 pub mod ProductsPinned
-pub mod Reciprocals
 pub mod Faithful
 pub mod Internal

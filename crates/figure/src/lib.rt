@@ -9,7 +9,6 @@ ghost use Rattle.figure.specs.Operations as ops;
 ghost use Rattle.figure.specs.Losses as losses;
 ghost use Rattle.figure.specs.Losses.{told};
 ghost use Rattle.figure.specs.Tested.{figure-test};
-ghost use Rattle.figure.specs.Reciprocals.{Reciprocates};
 ghost use Rattle.figure.specs.Internal.Ceiling.{Ceiling};
 
 mod ceiling;
@@ -18,13 +17,11 @@ mod division;
 mod powers;
 mod product;
 mod quotient;
-pub mod reciprocal;
+mod reciprocal;
 mod sum;
 mod telling;
 mod total;
 mod whole;
-
-use crate::reciprocal::Reciprocal;
 
 #[repr(C)]
 pub struct Figure {
@@ -213,19 +210,19 @@ impl Figure {
         telling::told(figure, quotient::divided(true, self, other))
     }
 
-    // The quotient by a whole number from 1 to 25.
-    pub fn over_up(self, by: Reciprocal) -> Figure
-        requires { ⌜ Operand 9 self × Reciprocates by ⌝ }
-        ensures { λ r. ⌜ r ≡ ops.divided-up self (by .figure) ⌝ }
+    // The quotient by the whole number k.
+    pub fn over_up(self, k: u64) -> Figure
+        requires { ⌜ Operand 9 self × (0 < k) × (k ≤ 25) ⌝ }
+        ensures { λ r. ⌜ r ≡ ops.divided-up self (ops.of-whole k) ⌝ }
     {
-        reciprocal::over(true, self, by)
+        reciprocal::over(true, self, k)
     }
 
-    pub fn over_down(self, by: Reciprocal) -> Figure
-        requires { ⌜ Operand 9 self × Reciprocates by ⌝ }
-        ensures { λ r. ⌜ r ≡ ops.divided-down self (by .figure) ⌝ }
+    pub fn over_down(self, k: u64) -> Figure
+        requires { ⌜ Operand 9 self × (0 < k) × (k ≤ 25) ⌝ }
+        ensures { λ r. ⌜ r ≡ ops.divided-down self (ops.of-whole k) ⌝ }
     {
-        reciprocal::over(false, self, by)
+        reciprocal::over(false, self, k)
     }
 
     // Times ten to the power p, exactly.

@@ -10,7 +10,7 @@ use crate::division;
 use crate::powers;
 
 // How many zeros the first number needs so that its quotient by the second has nine digits, for two numbers of nine digits.
-pub(crate) fn zeros_needed(a: u64, b: u64) -> usize
+fn zeros_needed(a: u64, b: u64) -> usize
     requires { ⌜ NineDigits a × NineDigits b ⌝ }
     ensures { λ r. ⌜ Padding a b r ⌝ }
 {

@@ -1,7 +1,6 @@
 -- The steps that the crate's private functions take, as their contracts name them. No public contract cites this page. Assumes nothing: these
 -- are definitions.
 use mathlib.Core.Bool.{Bool, true, false, not, _||_}
-use mathlib.Core.Path.{_≡_}
 use Prim.Native.Nat.{ℕ, zero, suc, _+_, _-_, _*_, _/_, _^_, _≤_, _<_}
 use lib.Dec.{ltb, eqb}
 use lib.IntN.{ℤ, pos, natAbs, _+ℤ_, _-ℤ_}
@@ -82,11 +81,6 @@ pub record Padding (a b k : ℕ) : Type 0 where
   pub few : k ≤ 9
   pub low : 10 ^ 8 * b ≤ a * 10 ^ k
   pub high : a * 10 ^ k < 10 ^ 9 * b
-
--- m times a, without its last 34 bits, is a with k zeros over b
-pub record Multiplies (a k b m : ℕ) : Type 0 where
-  pub is : a * m / 17179869184 ≡ a * 10 ^ k / b
-  pub most : a * m < 10 ^ 9 * 17179869184
 
 -- r, at most m, is the number of digits of n
 pub record Count (m n r : ℕ) : Type 0 where
