@@ -3,7 +3,6 @@ ghost use Rattle.path.specs.Internal.Lent.{lent};
 ghost use Rattle.bounds.specs.Internal.Walk.{Ready, WalkedBeyond, asked};
 use crate::marks::mark_ended;
 use figure::Figure;
-use figure::reciprocal::reciprocal_of;
 use model::index::Index;
 use model::index::exit_count;
 use path::counts::Counts;
@@ -50,7 +49,7 @@ pub(crate) fn walk(
     requires { ⌜ Ready (lent (now words) (now index) (now table)) (asked task tip left entries path counts (now rows)) ⌝ }
     ensures { λ r. ⌜ WalkedBeyond (lent (now (words .entry)) (now (index .entry)) (now (table .entry))) (asked task tip left entries path counts (now (rows .entry))) r (now (rows .exit)) ⌝ }
 {
-    let nth = reciprocal_of(tip.ones + 1);
+    let nth = tip.ones + 1;
     let mut entered = entries;
     let mut taken = path;
     let mut made = counts;

@@ -4,9 +4,7 @@ use mathlib.Core.Path.{_≡_, refl, ap}
 use native.Mathlib.Nat.{le-trans, add-comm}
 use lib.Dec.{lit≤}
 use Rattle.figure.specs.declared.Figure.{Figure}
-use Rattle.figure.specs.declared.reciprocal.Reciprocal.{Reciprocal}
 use Rattle.figure.specs.Operands.{Sized, Operand}
-use Rattle.figure.specs.Reciprocals.{reciprocal-of, Reciprocates}
 use Rattle.figure.specs.Operations.{times-up, of-whole}
 use Rattle.figure.proofs.Sized.{sized-≤, times-up-sized}
 use Rattle.word.specs.Model.{Transition, Net}
@@ -32,18 +30,6 @@ small-operand h = sized-≤ (lit≤ tt) h
 
 pub divisor : (k : ℕ) {f : Figure} → 0 < k → k ≤ 25 → f ≡ of-whole k → Sized 9 2000 f × (0 < f .digits)
 divisor k low high e = rw e (sized-≤ (lit≤ tt) (count-sized k (le-trans high (lit≤ tt))), of-whole-above k low)
-
--- the number of the next class 1 step, with its reciprocal
-
-pub nth-figure : (k : ℕ) {n : Reciprocal} → n ≡ reciprocal-of k → n .figure ≡ of-whole k
-unfolding reciprocal-of
-nth-figure k e = ap (λ (r : Reciprocal). r .figure) e
-
-pub nth-reciprocates : (k : ℕ) {n : Reciprocal} → 0 < k → k ≤ 25 → n ≡ reciprocal-of k → Reciprocates n
-nth-reciprocates k low high e = record { k = k; some = low; most = high; is = e }
-
-pub nth-sized : {n : Reciprocal} → Reciprocates n → Sized 9 2000 (n .figure) × (0 < n .figure .digits)
-nth-sized r = divisor (r .k) (r .some) (r .most) (nth-figure (r .k) (r .is))
 
 -- ---- the tip
 

@@ -5,7 +5,7 @@ ghost use mathlib.Core.Bool.{true};
 ghost use mathlib.Core.List.{_∷_};
 ghost use Prim.Native.Nat.{ℕ, _+_, _<_, _≤_};
 ghost use Rattle.figure.specs.Operands.{Sized};
-ghost use Rattle.figure.specs.Reciprocals.{reciprocal-of, Reciprocates};
+ghost use Rattle.figure.specs.Operations as ops;
 ghost use Rattle.word.specs.Model.{Net};
 ghost use Rattle.model.specs.Index.{transition};
 ghost use Rattle.tree.specs.Paths.{Path};
@@ -22,7 +22,6 @@ use crate::lower::last_factor;
 use crate::lower::product;
 use crate::lower::spent_on;
 use figure::Figure;
-use figure::reciprocal::Reciprocal;
 use model::index::Index;
 use model::index::wide;
 use tables::class::Class;
@@ -166,9 +165,9 @@ fn kept_or_new_stem(
 }
 
 // The lower of a death path from its stem, its last step being of a class, with its share and factor; it is the nth of class 1 if it is of class 1.
-fn lower_of(stem: Stem, class: Class, share: Figure, factor: Figure, nth: Reciprocal) -> Figure
-    requires { ⌜ StemSized stem × Sized 9 2000 share × Sized 9 2000 factor × Reciprocates nth ⌝ }
-    ensures { λ r. ⌜ r ≡ death-lower stem (class-for class) share factor (nth .figure) ⌝ }
+fn lower_of(stem: Stem, class: Class, share: Figure, factor: Figure, nth: u64) -> Figure
+    requires { ⌜ StemSized stem × Sized 9 2000 share × Sized 9 2000 factor × (0 < nth) × (nth ≤ 25) ⌝ }
+    ensures { λ r. ⌜ r ≡ death-lower stem (class-for class) share factor (ops.of-whole nth) ⌝ }
 {
     if stem.filled == 1 {
         return Figure::zero();
@@ -194,11 +193,11 @@ pub fn death(
     time: Figure,
     path: [u16; 24],
     tip: Tip,
-    nth: Reciprocal,
+    nth: u64,
     exit: Exit,
     cache: Cache,
 ) -> Died
-    requires { ⌜ LastStep (lent (now words) (now index) (now table)) time path tip exit × (nth ≡ reciprocal-of (tip .ones + 1)) ⌝ }
+    requires { ⌜ LastStep (lent (now words) (now index) (now table)) time path tip exit × (nth ≡ tip .ones + 1) ⌝ }
     requires { ⌜ Cached (net-of (now words)) (path-of (net-of (now words)) path (tip .len)) (tip .state) cache ⌝ }
     ensures { λ r. ⌜ r .lower ≡ bound.lower (net-of (now (words .entry))) (transition (net-of (now (words .entry))) (exit .index) ∷ path-of (net-of (now (words .entry))) path (tip .len)) ⌝ }
     ensures { λ r. ⌜ Cached (net-of (now (words .entry))) (path-of (net-of (now (words .entry))) path (tip .len)) (tip .state) (r .cache) ⌝ }

@@ -1,13 +1,12 @@
 // One exit of the state at a path's end, and the end of the path beyond it.
 ghost use mathlib.Core.Path.{_≡_};
-ghost use Prim.Native.Nat.{_+_, _<_};
+ghost use Prim.Native.Nat.{_+_, _≤_, _<_};
 ghost use Rattle.figure.specs.Operands.{Sized};
-ghost use Rattle.figure.specs.Reciprocals.{reciprocal-of, Reciprocates};
+ghost use Rattle.figure.specs.Operations as ops;
 ghost use Rattle.tables.specs.Internal.Classes.{class-for};
 ghost use Rattle.path.specs.Internal.Lent.{lent};
 ghost use Rattle.path.specs.Internal.Exits.{ExitOf, ExitReady, tip-by, upper-by};
 use figure::Figure;
-use figure::reciprocal::Reciprocal;
 use model::index::Index;
 use model::index::slot;
 use model::index::wide;
@@ -39,14 +38,14 @@ pub struct Exit {
 // U one step further: by a step of the class `class`, the nth of class 1 if it is of class 1, with its share, h of the state that it leaves and T.
 fn further(
     class: Class,
-    nth: Reciprocal,
+    nth: u64,
     upper: Figure,
     share: Figure,
     mean: Figure,
     time: Figure,
 ) -> Figure
-    requires { ⌜ Sized 9 20000 upper × Sized 9 1000 share × Sized 9 1000 mean × Sized 9 1000 time × Reciprocates nth ⌝ }
-    ensures { λ r. ⌜ r ≡ upper-by (class-for class) (nth .figure) upper share mean time ⌝ }
+    requires { ⌜ Sized 9 20000 upper × Sized 9 1000 share × Sized 9 1000 mean × Sized 9 1000 time × (0 < nth) × (nth ≤ 25) ⌝ }
+    ensures { λ r. ⌜ r ≡ upper-by (class-for class) (ops.of-whole nth) upper share mean time ⌝ }
 {
     let by_share = upper.times_up(share);
     match class {
@@ -59,7 +58,7 @@ fn further(
 // The tip one step further; nth is the number of its next class 1 step.
 fn next_tip(
     tip: Tip,
-    nth: Reciprocal,
+    nth: u64,
     class: Class,
     to: usize,
     share: Figure,
@@ -67,7 +66,7 @@ fn next_tip(
     time: Figure,
 ) -> Tip
     requires { ⌜ Sized 9 20000 (tip .upper) × Sized 9 1000 share × Sized 9 1000 mean × Sized 9 1000 time × (tip .ones < 24) × (tip .len < 24) ⌝ }
-    requires { ⌜ nth ≡ reciprocal-of (tip .ones + 1) ⌝ }
+    requires { ⌜ nth ≡ tip .ones + 1 ⌝ }
     ensures { λ r. ⌜ r ≡ tip-by tip (class-for class) to share mean time ⌝ }
 {
     let upper = tip.upper;
@@ -87,10 +86,10 @@ pub fn exit_at(
     table: &Table,
     time: Figure,
     tip: Tip,
-    nth: Reciprocal,
+    nth: u64,
     i: usize,
 ) -> Exit
-    requires { ⌜ ExitReady (lent (now words) (now index) (now table)) time tip i × (nth ≡ reciprocal-of (tip .ones + 1)) ⌝ }
+    requires { ⌜ ExitReady (lent (now words) (now index) (now table)) time tip i × (nth ≡ tip .ones + 1) ⌝ }
     ensures { λ r. ⌜ ExitOf (lent (now (words .entry)) (now (index .entry)) (now (table .entry))) tip i r ⌝ }
 {
     let s = tip.state;

@@ -1,10 +1,10 @@
 -- `lower_of` meets its contract: every figure on the way is an operand. Assumes nothing.
-use mathlib.Core.Path.{sym, _∙_}
+use mathlib.Core.Path.{refl, sym, _∙_}
 use lib.Dec.{lit≤}
 use borrow.Author.Needs.{needs}
 use borrow.Author.Tests.{eq-eqb, ne-eqb}
 use Rattle.figure.proofs.Sized.{sized-≤, times-down-sized, divided-down-sized}
-use Rattle.path.proofs.ExitTips.{nth-sized}
+use Rattle.path.proofs.ExitTips.{divisor}
 use Rattle.path.proofs.DeathStems.{lower-filled, lower-one, lower-other}
 use Rattle.path.proofs.deaths.lower_of.Statement.{statement}
 use Rattle.path.proofs.deaths.lower_of.Tie as tie
@@ -32,13 +32,14 @@ over-down-requires c κs =
       rw (c .times-down2 .ensures, c .before .times-down .ensures)
           (sized-≤ (lit≤ tt) (times-down-sized (times-down-sized (p .0 .product) (p .1)) (p .0 .time))),
       p .3,
+      p .4,
     )
 
 times-down-requires-3 : tie.Need-times-down-requires-3
 times-down-requires-3 c κs =
     let p = c .before .before .before .before .before .before .before .before .before .before .pre in (
       rw (c .over-down .ensures, c .before .times-down2 .ensures, c .before .before .times-down .ensures)
-          (sized-≤ (lit≤ tt) (divided-down-sized (times-down-sized (times-down-sized (p .0 .product) (p .1)) (p .0 .time)) (nth-sized (p .3) .0) (nth-sized (p .3) .1))),
+          (sized-≤ (lit≤ tt) (divided-down-sized (times-down-sized (times-down-sized (p .0 .product) (p .1)) (p .0 .time)) (divisor _ (p .3) (p .4) refl .0) (divisor _ (p .3) (p .4) refl .1))),
       sized-≤ (lit≤ tt) (p .0 .last),
     )
 

@@ -1,7 +1,7 @@
 -- `further` meets its contract: the figures on the way are operands, and the results go by the class. Assumes nothing.
 use mathlib.Core.Path.{sym, ap, _∙_}
 use borrow.Author.Needs.{needs}
-use Rattle.figure.specs.Operations.{times-up, divided-up}
+use Rattle.figure.specs.Operations.{times-up, divided-up, of-whole}
 use Rattle.tables.specs.Internal.Classes.{class-for}
 use Rattle.path.specs.Internal.Exits.{upper-by}
 use Rattle.path.proofs.ExitTips.{by-share-operand, by-time-operand, small-operand}
@@ -24,7 +24,7 @@ over-up-requires : tie.Need-over-up-requires
 over-up-requires c κs =
     let o = c .before .before .before in
     let h = o .before .pre in
-    (by-time-operand (h .0) (h .1) (o .times-up .ensures) (h .3) (c .times-up2 .ensures), h .4)
+    (by-time-operand (h .0) (h .1) (o .times-up .ensures) (h .3) (c .times-up2 .ensures), h .4, h .5)
 
 enum-told-2 : tie.Need-enum-told-2
 enum-told-2 c = search needs
@@ -45,8 +45,8 @@ returns c =
     let o = e .before .before in
     let a = o .before .args in
     c .over-up .ensures
-    ∙ ap (λ f. divided-up f (a .nth .figure)) (c .before .times-up2 .ensures ∙ ap (λ f. times-up f (a .time)) (o .times-up .ensures))
-    ∙ sym (ap (λ x. upper-by (class-for x) (a .nth .figure) (a .upper) (a .share) (a .mean) (a .time)) (e .enum-told .given .1))
+    ∙ ap (λ f. divided-up f (of-whole (a .nth))) (c .before .times-up2 .ensures ∙ ap (λ f. times-up f (a .time)) (o .times-up .ensures))
+    ∙ sym (ap (λ x. upper-by (class-for x) (of-whole (a .nth)) (a .upper) (a .share) (a .mean) (a .time)) (e .enum-told .given .1))
 
 returns-2 : tie.Need-returns-2
 unfolding upper-by
@@ -54,7 +54,7 @@ returns-2 c =
     let o = c .before .before in
     let a = o .before .args in
     o .times-up .ensures
-    ∙ sym (ap (λ x. upper-by (class-for x) (a .nth .figure) (a .upper) (a .share) (a .mean) (a .time)) (c .enum-told2 .given .1))
+    ∙ sym (ap (λ x. upper-by (class-for x) (of-whole (a .nth)) (a .upper) (a .share) (a .mean) (a .time)) (c .enum-told2 .given .1))
 
 returns-3 : tie.Need-returns-3
 unfolding upper-by
@@ -63,7 +63,7 @@ returns-3 c =
     let a = o .before .args in
     c .times-up3 .ensures
     ∙ ap (λ f. times-up f (a .mean)) (o .times-up .ensures)
-    ∙ sym (ap (λ x. upper-by (class-for x) (a .nth .figure) (a .upper) (a .share) (a .mean) (a .time)) (c .before .enum-told3 .given .1))
+    ∙ sym (ap (λ x. upper-by (class-for x) (of-whole (a .nth)) (a .upper) (a .share) (a .mean) (a .time)) (c .before .enum-told3 .given .1))
 
 pub further-spec : {M : Type 1} → statement M
 further-spec =
