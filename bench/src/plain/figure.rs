@@ -19,26 +19,6 @@ const TENS: [u64; 20] = {
     tens
 };
 
-/// The bits that a product by a reciprocal drops.
-const SHIFT: u32 = 34;
-
-/// A whole number from 1 to 25 as a figure, and what nine digits are multiplied by for their quotient by it: where they reach the figure's digits, and where
-/// they fall short of them.
-#[derive(Clone, Copy)]
-pub struct Reciprocal {
-    figure: Figure,
-    reached: u64,
-    short: u64,
-}
-
-impl Reciprocal {
-    pub fn of(k: u64) -> Reciprocal {
-        let lift = if k < 10 { 1 } else { 10 };
-        let scaled = |t: u64| (t << SHIFT).div_ceil(k);
-        Reciprocal { figure: Figure::whole(k), reached: scaled(lift), short: scaled(10 * lift) }
-    }
-}
-
 /// A quotient at a power, with one more where something was left and the side is up; `WIDTH` digits.
 fn rounded<const SIDE: bool, const WIDTH: usize>(whole: u64, left: bool, power: i32) -> Figure {
     if SIDE && left {
@@ -132,19 +112,6 @@ impl Figure {
         rounded::<SIDE, 9>(n / other.digits, n % other.digits != 0, power)
     }
 
-    /// The quotient by a small whole number, multiplied by its reciprocal, as in the proved library.
-    pub fn over_small<const SIDE: bool>(self, by: Reciprocal) -> Figure {
-        if self.digits == 0 {
-            return self;
-        }
-        let other = by.figure;
-        let reached = other.digits <= self.digits;
-        let zeros = if reached { 8 } else { 9 };
-        let whole = self.digits * if reached { by.reached } else { by.short } >> SHIFT;
-        let power = self.power - other.power - zeros as i32;
-        rounded::<SIDE, 9>(whole, whole * other.digits != self.digits * TENS[zeros], power)
-    }
-
     pub fn plus<const SIDE: bool>(self, other: Figure) -> Figure {
         sum::<SIDE, 9>(self, other)
     }
@@ -185,22 +152,12 @@ impl Figure {
 
     /// A total with a figure added.
     pub fn total<const SIDE: bool>(self, figure: Figure) -> Figure {
-        if figure.digits == 0 {
-            return self;
-        }
-        let wide = Figure { digits: figure.digits * TENS[9], power: figure.power - 9 };
-        if self.digits == 0 {
-            return wide;
-        }
-        let gap = self.power - wide.power;
-        if (0..10).contains(&gap) {
-            // the figure ends in nine zeros: nothing is divided
-            let whole = self.digits + figure.digits * TENS[9 - gap as usize];
-            return trimmed::<SIDE, 18>(whole, false, self.power);
-        }
-        let (large, small) = ordered(self, wide);
-        let (whole, left) = aligned(large, small);
-        trimmed::<SIDE, 18>(whole, left, large.power)
+        let wide = if figure.digits == 0 {
+            figure
+        } else {
+            Figure { digits: figure.digits * TENS[9], power: figure.power - 9 }
+        };
+        sum::<SIDE, 18>(self, wide)
     }
 
     /// A total, to nine digits.

@@ -1,6 +1,6 @@
 //! The cut tree.
 
-use super::figure::{Figure, Reciprocal, DOWN, UP};
+use super::figure::{Figure, DOWN, UP};
 use super::tables::{Step, Tables};
 use super::words::Model;
 use super::{Refusal, Report, Row};
@@ -81,7 +81,7 @@ impl<'a> Walk<'a> {
     /// Walks every exit of a state that a path of `len` steps has reached, `ones` of them of class 1; false where the budget is spent.
     fn every_exit(&mut self, state: usize, upper: Figure, ones: u64, len: usize) -> bool {
         let model = self.model;
-        let nth = Reciprocal::of(ones + 1);
+        let nth = Figure::whole(ones + 1);
         let mut shared: Option<Shared> = None;
         for &exit in &model.exits[state] {
             if self.steps == self.budget {
@@ -124,10 +124,10 @@ impl<'a> Walk<'a> {
     }
 
     /// U one step further; the step is the `nth` of class 1 if it is of class 1.
-    fn further(&self, step: &Step, upper: Figure, nth: Reciprocal) -> Figure {
+    fn further(&self, step: &Step, upper: Figure, nth: Figure) -> Figure {
         let upper = upper.times::<UP>(step.share);
         match step.class {
-            1 => upper.times::<UP>(self.model.time).over_small::<UP>(nth),
+            1 => upper.times::<UP>(self.model.time).over::<UP>(nth),
             2 => upper,
             _ => upper.times::<UP>(self.tables.states[step.from as usize].mean),
         }
@@ -138,7 +138,7 @@ impl<'a> Walk<'a> {
     fn lower_of(
         &self,
         step: &Step,
-        nth: Reciprocal,
+        nth: Figure,
         ones: u64,
         len: usize,
         kept: &mut Option<Shared>,
@@ -151,9 +151,16 @@ impl<'a> Walk<'a> {
         let Some(shared) = shared else {
             return Figure::ZERO;
         };
-        let over_nth = |figure: Figure| figure.over_small::<DOWN>(nth);
-        let product = factor(step, shared.product, shared.time, over_nth);
+        let product = self.factor(step, shared.product, shared.time, nth);
         product.times::<DOWN>(shared.last)
+    }
+
+    /// The product with one step more, `time` being down(t); the step is the `nth` of class 1 if it is of class 1.
+    fn factor(&self, step: &Step, product: Figure, time: Figure, nth: Figure) -> Figure {
+        if step.class != 1 {
+            return product.times::<DOWN>(step.factor);
+        }
+        product.times::<DOWN>(step.share).times::<DOWN>(time).over::<DOWN>(nth)
     }
 
     fn shared(&self, last: &Step, ones: u64, len: usize) -> Shared {
@@ -176,22 +183,8 @@ impl<'a> Walk<'a> {
         let (mut product, mut k) = (Figure::ONE, 0);
         for step in path() {
             k += u64::from(step.class == 1);
-            let over_k = |figure: Figure| figure.over::<DOWN>(Figure::whole(k));
-            product = factor(step, product, time, over_k);
+            product = self.factor(step, product, time, Figure::whole(k));
         }
         Some(SharedFactors { time, product, last: Figure::ONE.minus(loss) })
     }
-}
-
-/// The product with one step more, `time` being down(t); `over_k` divides by the step's number where it is of class 1.
-fn factor(
-    step: &Step,
-    product: Figure,
-    time: Figure,
-    over_k: impl Fn(Figure) -> Figure,
-) -> Figure {
-    if step.class != 1 {
-        return product.times::<DOWN>(step.factor);
-    }
-    over_k(product.times::<DOWN>(step.share).times::<DOWN>(time))
 }

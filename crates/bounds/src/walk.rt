@@ -49,7 +49,7 @@ pub(crate) fn walk(
     requires { ⌜ Ready (lent (now words) (now index) (now table)) (asked task tip left entries path counts (now rows)) ⌝ }
     ensures { λ r. ⌜ WalkedBeyond (lent (now (words .entry)) (now (index .entry)) (now (table .entry))) (asked task tip left entries path counts (now (rows .entry))) r (now (rows .exit)) ⌝ }
 {
-    let nth = tip.ones + 1;
+    let nth = Figure::of_whole(tip.ones + 1);
     let mut entered = entries;
     let mut taken = path;
     let mut made = counts;

@@ -14,7 +14,6 @@ pub mod Faithful
 pub mod Reach
 pub mod Stored
 pub mod Parts
-pub mod Arms
 pub mod PartsRounded
 pub mod Figures
 pub mod Sized
@@ -23,7 +22,6 @@ pub mod Products
 pub mod ProductsPinned
 pub mod Sums
 pub mod Quotients
-pub mod Reciprocals
 pub mod Wholes
 pub mod Totals
 pub mod Orders

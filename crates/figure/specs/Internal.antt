@@ -2,4 +2,3 @@ pub mod Steps
 pub mod Telling
 pub mod Gathered
 pub mod Ceiling
-pub mod Reciprocals

@@ -17,7 +17,6 @@ mod division;
 mod powers;
 mod product;
 mod quotient;
-mod reciprocal;
 mod sum;
 mod telling;
 mod total;
@@ -208,21 +207,6 @@ impl Figure {
     {
         let figure = quotient::divided(false, self, other);
         telling::told(figure, quotient::divided(true, self, other))
-    }
-
-    // The quotient by the whole number k.
-    pub fn over_up(self, k: u64) -> Figure
-        requires { ⌜ Operand 9 self × (0 < k) × (k ≤ 25) ⌝ }
-        ensures { λ r. ⌜ r ≡ ops.divided-up self (ops.of-whole k) ⌝ }
-    {
-        reciprocal::over(true, self, k)
-    }
-
-    pub fn over_down(self, k: u64) -> Figure
-        requires { ⌜ Operand 9 self × (0 < k) × (k ≤ 25) ⌝ }
-        ensures { λ r. ⌜ r ≡ ops.divided-down self (ops.of-whole k) ⌝ }
-    {
-        reciprocal::over(false, self, k)
     }
 
     // Times ten to the power p, exactly.

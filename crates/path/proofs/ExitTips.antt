@@ -28,7 +28,7 @@ module _ {u s : Figure} (upper : Sized 9 20000 u) (small : Sized 9 1000 s) {a : 
 pub small-operand : {f : Figure} → Sized 9 1000 f → Operand 9 f
 small-operand h = sized-≤ (lit≤ tt) h
 
-pub divisor : (k : ℕ) {f : Figure} → 0 < k → k ≤ 25 → f ≡ of-whole k → Sized 9 2000 f × (0 < f .digits)
+pub divisor : (k : ℕ) {f : Figure} → 0 < k → k ≤ 24 → f ≡ of-whole k → Sized 9 2000 f × (0 < f .digits)
 divisor k low high e = rw e (sized-≤ (lit≤ tt) (count-sized k (le-trans high (lit≤ tt))), of-whole-above k low)
 
 -- ---- the tip

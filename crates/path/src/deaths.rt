@@ -165,9 +165,9 @@ fn kept_or_new_stem(
 }
 
 // The lower of a death path from its stem, its last step being of a class, with its share and factor; it is the nth of class 1 if it is of class 1.
-fn lower_of(stem: Stem, class: Class, share: Figure, factor: Figure, nth: u64) -> Figure
-    requires { ⌜ StemSized stem × Sized 9 2000 share × Sized 9 2000 factor × (0 < nth) × (nth ≤ 25) ⌝ }
-    ensures { λ r. ⌜ r ≡ death-lower stem (class-for class) share factor (ops.of-whole nth) ⌝ }
+fn lower_of(stem: Stem, class: Class, share: Figure, factor: Figure, nth: Figure) -> Figure
+    requires { ⌜ StemSized stem × Sized 9 2000 share × Sized 9 2000 factor × Sized 9 2000 nth × (0 < nth .digits) ⌝ }
+    ensures { λ r. ⌜ r ≡ death-lower stem (class-for class) share factor nth ⌝ }
 {
     if stem.filled == 1 {
         return Figure::zero();
@@ -178,7 +178,7 @@ fn lower_of(stem: Stem, class: Class, share: Figure, factor: Figure, nth: u64) -
     if is_class1(class) {
         return p.times_down(share)
             .times_down(t)
-            .over_down(nth)
+            .divided_down(nth)
             .times_down(last);
     }
     p.times_down(factor).times_down(last)
@@ -193,11 +193,11 @@ pub fn death(
     time: Figure,
     path: [u16; 24],
     tip: Tip,
-    nth: u64,
+    nth: Figure,
     exit: Exit,
     cache: Cache,
 ) -> Died
-    requires { ⌜ LastStep (lent (now words) (now index) (now table)) time path tip exit × (nth ≡ tip .ones + 1) ⌝ }
+    requires { ⌜ LastStep (lent (now words) (now index) (now table)) time path tip exit × (nth ≡ ops.of-whole (tip .ones + 1)) ⌝ }
     requires { ⌜ Cached (net-of (now words)) (path-of (net-of (now words)) path (tip .len)) (tip .state) cache ⌝ }
     ensures { λ r. ⌜ r .lower ≡ bound.lower (net-of (now (words .entry))) (transition (net-of (now (words .entry))) (exit .index) ∷ path-of (net-of (now (words .entry))) path (tip .len)) ⌝ }
     ensures { λ r. ⌜ Cached (net-of (now (words .entry))) (path-of (net-of (now (words .entry))) path (tip .len)) (tip .state) (r .cache) ⌝ }

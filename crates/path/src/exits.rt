@@ -1,6 +1,6 @@
 // One exit of the state at a path's end, and the end of the path beyond it.
 ghost use mathlib.Core.Path.{_≡_};
-ghost use Prim.Native.Nat.{_+_, _≤_, _<_};
+ghost use Prim.Native.Nat.{_+_, _<_};
 ghost use Rattle.figure.specs.Operands.{Sized};
 ghost use Rattle.figure.specs.Operations as ops;
 ghost use Rattle.tables.specs.Internal.Classes.{class-for};
@@ -38,18 +38,18 @@ pub struct Exit {
 // U one step further: by a step of the class `class`, the nth of class 1 if it is of class 1, with its share, h of the state that it leaves and T.
 fn further(
     class: Class,
-    nth: u64,
+    nth: Figure,
     upper: Figure,
     share: Figure,
     mean: Figure,
     time: Figure,
 ) -> Figure
-    requires { ⌜ Sized 9 20000 upper × Sized 9 1000 share × Sized 9 1000 mean × Sized 9 1000 time × (0 < nth) × (nth ≤ 25) ⌝ }
-    ensures { λ r. ⌜ r ≡ upper-by (class-for class) (ops.of-whole nth) upper share mean time ⌝ }
+    requires { ⌜ Sized 9 20000 upper × Sized 9 1000 share × Sized 9 1000 mean × Sized 9 1000 time × Sized 9 2000 nth × (0 < nth .digits) ⌝ }
+    ensures { λ r. ⌜ r ≡ upper-by (class-for class) nth upper share mean time ⌝ }
 {
     let by_share = upper.times_up(share);
     match class {
-        Class::Class1 => by_share.times_up(time).over_up(nth),
+        Class::Class1 => by_share.times_up(time).divided_up(nth),
         Class::Class2 => by_share,
         Class::Class3 => by_share.times_up(mean),
     }
@@ -58,7 +58,7 @@ fn further(
 // The tip one step further; nth is the number of its next class 1 step.
 fn next_tip(
     tip: Tip,
-    nth: u64,
+    nth: Figure,
     class: Class,
     to: usize,
     share: Figure,
@@ -66,7 +66,7 @@ fn next_tip(
     time: Figure,
 ) -> Tip
     requires { ⌜ Sized 9 20000 (tip .upper) × Sized 9 1000 share × Sized 9 1000 mean × Sized 9 1000 time × (tip .ones < 24) × (tip .len < 24) ⌝ }
-    requires { ⌜ nth ≡ tip .ones + 1 ⌝ }
+    requires { ⌜ nth ≡ ops.of-whole (tip .ones + 1) ⌝ }
     ensures { λ r. ⌜ r ≡ tip-by tip (class-for class) to share mean time ⌝ }
 {
     let upper = tip.upper;
@@ -86,10 +86,10 @@ pub fn exit_at(
     table: &Table,
     time: Figure,
     tip: Tip,
-    nth: u64,
+    nth: Figure,
     i: usize,
 ) -> Exit
-    requires { ⌜ ExitReady (lent (now words) (now index) (now table)) time tip i × (nth ≡ tip .ones + 1) ⌝ }
+    requires { ⌜ ExitReady (lent (now words) (now index) (now table)) time tip i × (nth ≡ ops.of-whole (tip .ones + 1)) ⌝ }
     ensures { λ r. ⌜ ExitOf (lent (now (words .entry)) (now (index .entry)) (now (table .entry))) tip i r ⌝ }
 {
     let s = tip.state;

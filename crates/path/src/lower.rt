@@ -104,7 +104,9 @@ pub(crate) fn product(
         let class = step.class;
         if is_class1(class) {
             k += 1;
-            p = p.times_down(share(table, j)).times_down(t).over_down(k);
+            p = p.times_down(share(table, j))
+                .times_down(t)
+                .divided_down(Figure::of_whole(k));
         } else {
             p = p.times_down(factor(table, j));
         }
@@ -118,6 +120,6 @@ pub(crate) fn last_factor(above: Figure, rates: Figure, k: u64) -> Figure
     requires { ⌜ Sized 9 100 above × Sized 9 2000 rates × (k ≤ 24) ⌝ }
     ensures { λ r. ⌜ r ≡ ops.minus-down (ops.of-whole 1) (ops.divided-up (ops.times-up above rates) (ops.of-whole (k + 1))) ⌝ }
 {
-    let b = above.times_up(rates).over_up(k + 1);
+    let b = above.times_up(rates).divided_up(Figure::of_whole(k + 1));
     Figure::of_whole(1).minus_down(b)
 }

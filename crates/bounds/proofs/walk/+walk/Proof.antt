@@ -43,6 +43,7 @@ use Rattle.rows.proofs.table.note_death.Reads as note-death-reads
 use Rattle.rows.proofs.table.is_kept.Reads as is-kept-reads
 use Rattle.rows.proofs.table.is_open.Reads as is-open-reads
 use Rattle.bounds.proofs.marks.mark_ended.Reads as mark-ended-reads
+use Rattle.figure.proofs.Figure.of_whole.Reads as of-whole-reads
 use Rattle.figure.proofs.Figure.zero.Reads as zero-reads
 use Rattle.model.proofs.index.exit_count.Reads as exit-count-reads
 use Rattle.bounds.proofs.walk.+walk.{statement}
@@ -59,6 +60,8 @@ walk-below t = and 4 walk-kinds.ps (falls 4 walk-kinds.ps _<_ μ-walk t) walk.Pr
 
 abbrev claims : ℕ → walk-lts.Claims
 claims t = (
+  of-whole-reads.Asked,
+  of-whole-reads.Learnt,
   no-cache-reads.Asked,
   no-cache-reads.Learnt,
   exit-count-reads.Asked,
@@ -129,7 +132,7 @@ abbrev exit-loop : (t : ℕ) (c : ExitRead t) → AtLoop t
 exit-loop t c = c .before .before .before .before .before
 
 abbrev loop-begin : (t : ℕ) (c : AtLoop t) → Start t
-loop-begin t c = c .before .before .before .before .before .before .before
+loop-begin t c = c .before .before .before .before .before .before .before .before
 
 -- what is lent, what is asked for, and what the loop holds
 
@@ -222,18 +225,21 @@ cut-mark : (t : ℕ) (c : CutMarked t) → let e = read-exit t (cut-tested t c) 
 cut-mark t c = ⊎-elim (λ d. marked-at (d .4) (d .3 .ensures))
     (λ d. marked-at (d .1) (upper-lost _ _ (sym (c .before .is-kept .ensures) ∙ d .0 .left) refl)) (c .if6 .came)
 
-walk-add-nth : (t : ℕ) → walk-lts.Need-add-nth (claims t) (walk-at t) walk.Post walk-Inv-loop walk-μ-loop
-walk-add-nth t c = omega (arith, ones-few (c .before .before .pre .1))
+walk-add-of-whole : (t : ℕ) → walk-lts.Need-add-of-whole (claims t) (walk-at t) walk.Post walk-Inv-loop walk-μ-loop
+walk-add-of-whole t c = omega (arith, ones-few (c .before .before .pre .1))
+
+walk-of-whole-requires : (t : ℕ) → walk-lts.Need-of-whole-requires (claims t) (walk-at t) walk.Post walk-Inv-loop walk-μ-loop
+walk-of-whole-requires t c κs = search needs
 
 walk-no-cache-requires : (t : ℕ) → walk-lts.Need-no-cache-requires (claims t) (walk-at t) walk.Post walk-Inv-loop walk-μ-loop
 walk-no-cache-requires t c κs = tt
 
 walk-exit-count-requires : (t : ℕ) → walk-lts.Need-exit-count-requires (claims t) (walk-at t) walk.Post walk-Inv-loop walk-μ-loop
-walk-exit-count-requires t c κs = state-small (c .before .before .before .before .before .pre .1)
+walk-exit-count-requires t c κs = state-small (c .before .before .before .before .before .before .pre .1)
 
 walk-loop-holds : (t : ℕ) → walk-lts.Need-loop-holds (claims t) (walk-at t) walk.Post walk-Inv-loop walk-μ-loop
 walk-loop-holds t c =
-    let s = c .before .before .before .before .before .before in
+    let s = c .before .before .before .before .before .before .before in
     let good = s .good .1 .1 .1 .1 .1 .1 .1 .0 in
     let size : length (s .args .path) ≡ 24 = search needs in
     (omega arith, loop-start (s .pre .1) size (c .before .before .before .no-cache .ensures _ _ _))
@@ -259,7 +265,8 @@ walk-returns t c =
 walk-exit-at-requires : (t : ℕ) → walk-lts.Need-exit-at-requires (claims t) (walk-at t) walk.Post walk-Inv-loop walk-μ-loop
 walk-exit-at-requires t c κs =
     let n = c .before .before .before in
-    (exit-ready ((loop-begin t (n .before)) .pre .1) (more-at t n), refl)
+    let o = n .before .before .before .before .before .before in
+    (exit-ready ((loop-begin t (n .before)) .pre .1) (more-at t n), o .of-whole .ensures)
 
 walk-array-read-before : (t : ℕ) → walk-lts.Need-array-read-before (claims t) (walk-at t) walk.Post walk-Inv-loop walk-μ-loop
 walk-array-read-before t c = let h = there-small (turn t (c .before .before)) in omega arith
@@ -283,7 +290,8 @@ walk-death-requires : (t : ℕ) → walk-lts.Need-death-requires (claims t) (wal
 walk-death-requires t c κs =
     let e = read-exit t (c .before) in
     let w = turn t e in
-    ((last-step w, refl), w .kept .cached)
+    let o = (exit-loop t e) .before .before .before .before .before in
+    ((last-step w, o .of-whole .ensures), w .kept .cached)
 
 walk-is-open-requires : (t : ℕ) → walk-lts.Need-is-open-requires (claims t) (walk-at t) walk.Post walk-Inv-loop walk-μ-loop
 walk-is-open-requires t c κs = tt
@@ -444,7 +452,8 @@ pub +walk-spec : {M : Type 1} → statement M
     walk.Post
     walk-Inv-loop
     walk-μ-loop
-    (walk-add-nth t)
+    (walk-add-of-whole t)
+    (walk-of-whole-requires t)
     (walk-no-cache-requires t)
     (walk-exit-count-requires t)
     (walk-loop-holds t)

@@ -1,14 +1,23 @@
 -- `powers::ten_to` meets its contract: each arm is its power of ten. Assumes nothing.
 use native.Mathlib.Omega.{arith}
 use mathlib.Core.Path.{_≡_, refl}
-use Prim.Native.Nat.{ℕ, _^_}
-use Rattle.figure.proofs.Arms.{Unlike, behind}
+use Prim.Native.Nat.{ℕ, zero, suc, _^_, _≤_}
 use Rattle.figure.proofs.powers.ten_to.Statement.{statement}
 use Rattle.figure.proofs.powers.ten_to.Tie as tie
 
 -- the power at a known number
 power-at : {k : ℕ} (n : ℕ) {r : ℕ} → k ≡ n → r ≡ 10 ^ n → r ≡ 10 ^ k
 power-at n e is = rw e is
+
+-- k is none of the numbers below n, so it is n or more
+unfoldable Unlike : ℕ → ℕ → Type 0
+Unlike k zero = Unit {0}
+Unlike k (suc n) = Unlike k n × (k ≡ n → ⊥)
+
+at-least : (k n : ℕ) → Unlike k n → n ≤ k
+unfolding Unlike
+at-least k zero h = omega arith
+at-least k (suc n) h = omega (arith, at-least k n (h .0), h .1)
 
 returns : tie.Need-returns
 returns c = power-at 0 (c .match .keys1) refl
@@ -69,7 +78,7 @@ returns-19 c = power-at 18 (c .match .keys19) refl
 
 returns-20 : tie.Need-returns-20
 unfolding Unlike
-returns-20 c = power-at 19 (omega (arith, behind 0 _ 19 (omega arith) (c .match .rest), c .before .pre)) refl
+returns-20 c = power-at 19 (omega (arith, at-least _ 19 (c .match .rest), c .before .pre)) refl
 
 pub ten-to-spec : {M : Type 1} → statement M
 ten-to-spec =

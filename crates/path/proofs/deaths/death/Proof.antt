@@ -5,7 +5,6 @@ use lib.Dec.{lit≤}
 use borrow.Author.Needs.{needs}
 use mathlib.Core.List.{_∷_}
 use Rattle.figure.proofs.Sized.{sized-≤}
-use Rattle.figure.specs.Operations.{of-whole}
 use Rattle.model.specs.Index.{transition}
 use Rattle.tree.specs.Lower.{lower}
 use Rattle.tables.specs.Internal.Classes.{is-slow}
@@ -14,6 +13,7 @@ use Rattle.tables.specs.Internal.Tables.{share-in, factor-in}
 use Rattle.path.specs.Internal.Lent.{lent}
 use Rattle.path.specs.Internal.Paths.{path-of}
 use Rattle.path.specs.Internal.Deaths.{LastStep}
+use Rattle.path.proofs.ExitTips.{divisor}
 use Rattle.path.proofs.PathSteps.{share-held, share-held-sized, factor-held, factor-held-sized}
 use Rattle.path.proofs.DeathStems.{ones-high, death-at}
 use Rattle.path.proofs.DeathCache.{serves-kept}
@@ -48,12 +48,13 @@ factor-requires c κs = search needs
 lower-of-requires : tie.Need-lower-of-requires
 lower-of-requires c κs =
     let w = c .before .before in
-    let h = last w in (
+    let h = last w in
+    let d = divisor _ (omega arith) (omega (arith, ones-high h)) (start w .pre .0 .1) in (
       w .before .kept-or-new-stem .ensures .1,
       sized-≤ (lit≤ tt) (share-held-sized (h .filled) (h .index) (share-is (c .before))),
       sized-≤ (lit≤ tt) (factor-held-sized (h .filled) (h .index) (factor-is c)),
-      omega (arith, start w .pre .0 .1),
-      omega (arith, start w .pre .0 .1, ones-high h),
+      d .0,
+      d .1,
     )
 
 is-slow-requires : tie.Need-is-slow-requires
@@ -67,7 +68,7 @@ lower-is c =
     let w = f .before .before in
     let h = last w in
     death-at h (w .before .kept-or-new-stem .ensures .0) (share-held (h .filled) (h .index) (share-is (f .before)))
-    (factor-held (h .filled) (h .index) (factor-is f)) (ap of-whole (start w .pre .0 .1)) (c .lower-of .ensures)
+    (factor-held (h .filled) (h .index) (factor-is f)) (start w .pre .0 .1) (c .lower-of .ensures)
 
 returns : tie.Need-returns
 returns c =

@@ -1,10 +1,9 @@
 -- `lower_of` meets its contract: every figure on the way is an operand. Assumes nothing.
-use mathlib.Core.Path.{refl, sym, _∙_}
+use mathlib.Core.Path.{sym, _∙_}
 use lib.Dec.{lit≤}
 use borrow.Author.Needs.{needs}
 use borrow.Author.Tests.{eq-eqb, ne-eqb}
 use Rattle.figure.proofs.Sized.{sized-≤, times-down-sized, divided-down-sized}
-use Rattle.path.proofs.ExitTips.{divisor}
 use Rattle.path.proofs.DeathStems.{lower-filled, lower-one, lower-other}
 use Rattle.path.proofs.deaths.lower_of.Statement.{statement}
 use Rattle.path.proofs.deaths.lower_of.Tie as tie
@@ -26,20 +25,20 @@ times-down-requires-2 c κs =
     let p = c .before .before .before .before .before .before .before .before .pre in
     (rw (c .times-down .ensures) (sized-≤ (lit≤ tt) (times-down-sized (p .0 .product) (p .1))), sized-≤ (lit≤ tt) (p .0 .time))
 
-over-down-requires : tie.Need-over-down-requires
-over-down-requires c κs =
+divided-down-requires : tie.Need-divided-down-requires
+divided-down-requires c κs =
     let p = c .before .before .before .before .before .before .before .before .before .pre in (
       rw (c .times-down2 .ensures, c .before .times-down .ensures)
           (sized-≤ (lit≤ tt) (times-down-sized (times-down-sized (p .0 .product) (p .1)) (p .0 .time))),
-      p .3,
+      sized-≤ (lit≤ tt) (p .3),
       p .4,
     )
 
 times-down-requires-3 : tie.Need-times-down-requires-3
 times-down-requires-3 c κs =
     let p = c .before .before .before .before .before .before .before .before .before .before .pre in (
-      rw (c .over-down .ensures, c .before .times-down2 .ensures, c .before .before .times-down .ensures)
-          (sized-≤ (lit≤ tt) (divided-down-sized (times-down-sized (times-down-sized (p .0 .product) (p .1)) (p .0 .time)) (divisor _ (p .3) (p .4) refl .0) (divisor _ (p .3) (p .4) refl .1))),
+      rw (c .divided-down .ensures, c .before .times-down2 .ensures, c .before .before .times-down .ensures)
+          (sized-≤ (lit≤ tt) (divided-down-sized (times-down-sized (times-down-sized (p .0 .product) (p .1)) (p .0 .time)) (p .3) (p .4))),
       sized-≤ (lit≤ tt) (p .0 .last),
     )
 
@@ -48,7 +47,7 @@ returns-2 c =
     let d = c .before .before .before in
     let one = d .before in
     let rest = one .before .before .before .before .before in
-    rw (c .times-down3 .ensures, c .before .over-down .ensures, c .before .before .times-down2 .ensures, d .times-down .ensures)
+    rw (c .times-down3 .ensures, c .before .divided-down .ensures, c .before .before .times-down2 .ensures, d .times-down .ensures)
     (sym (lower-one _ _ _ _ _ (ne-eqb _ 1 (rest .if1 .left)) (sym (one .before .is-class1 .ensures) ∙ one .if2 .taken)))
 
 times-down-requires-4 : tie.Need-times-down-requires-4
@@ -74,7 +73,7 @@ lower-of-spec =
     is-class1-requires
     times-down-requires
     times-down-requires-2
-    over-down-requires
+    divided-down-requires
     times-down-requires-3
     returns-2
     times-down-requires-4

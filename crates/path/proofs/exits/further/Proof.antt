@@ -1,7 +1,9 @@
 -- `further` meets its contract: the figures on the way are operands, and the results go by the class. Assumes nothing.
 use mathlib.Core.Path.{sym, ap, _∙_}
+use lib.Dec.{lit≤}
 use borrow.Author.Needs.{needs}
-use Rattle.figure.specs.Operations.{times-up, divided-up, of-whole}
+use Rattle.figure.proofs.Sized.{sized-≤}
+use Rattle.figure.specs.Operations.{times-up, divided-up}
 use Rattle.tables.specs.Internal.Classes.{class-for}
 use Rattle.path.specs.Internal.Exits.{upper-by}
 use Rattle.path.proofs.ExitTips.{by-share-operand, by-time-operand, small-operand}
@@ -20,11 +22,11 @@ times-up-requires-2 c κs =
     let h = o .before .pre in
     (by-share-operand (h .0) (h .1) (o .times-up .ensures), small-operand (h .3))
 
-over-up-requires : tie.Need-over-up-requires
-over-up-requires c κs =
+divided-up-requires : tie.Need-divided-up-requires
+divided-up-requires c κs =
     let o = c .before .before .before in
     let h = o .before .pre in
-    (by-time-operand (h .0) (h .1) (o .times-up .ensures) (h .3) (c .times-up2 .ensures), h .4, h .5)
+    (by-time-operand (h .0) (h .1) (o .times-up .ensures) (h .3) (c .times-up2 .ensures), sized-≤ (lit≤ tt) (h .4), h .5)
 
 enum-told-2 : tie.Need-enum-told-2
 enum-told-2 c = search needs
@@ -44,9 +46,9 @@ returns c =
     let e = c .before .before in
     let o = e .before .before in
     let a = o .before .args in
-    c .over-up .ensures
-    ∙ ap (λ f. divided-up f (of-whole (a .nth))) (c .before .times-up2 .ensures ∙ ap (λ f. times-up f (a .time)) (o .times-up .ensures))
-    ∙ sym (ap (λ x. upper-by (class-for x) (of-whole (a .nth)) (a .upper) (a .share) (a .mean) (a .time)) (e .enum-told .given .1))
+    c .divided-up .ensures
+    ∙ ap (λ f. divided-up f (a .nth)) (c .before .times-up2 .ensures ∙ ap (λ f. times-up f (a .time)) (o .times-up .ensures))
+    ∙ sym (ap (λ x. upper-by (class-for x) (a .nth) (a .upper) (a .share) (a .mean) (a .time)) (e .enum-told .given .1))
 
 returns-2 : tie.Need-returns-2
 unfolding upper-by
@@ -54,7 +56,7 @@ returns-2 c =
     let o = c .before .before in
     let a = o .before .args in
     o .times-up .ensures
-    ∙ sym (ap (λ x. upper-by (class-for x) (of-whole (a .nth)) (a .upper) (a .share) (a .mean) (a .time)) (c .enum-told2 .given .1))
+    ∙ sym (ap (λ x. upper-by (class-for x) (a .nth) (a .upper) (a .share) (a .mean) (a .time)) (c .enum-told2 .given .1))
 
 returns-3 : tie.Need-returns-3
 unfolding upper-by
@@ -63,7 +65,7 @@ returns-3 c =
     let a = o .before .args in
     c .times-up3 .ensures
     ∙ ap (λ f. times-up f (a .mean)) (o .times-up .ensures)
-    ∙ sym (ap (λ x. upper-by (class-for x) (of-whole (a .nth)) (a .upper) (a .share) (a .mean) (a .time)) (c .before .enum-told3 .given .1))
+    ∙ sym (ap (λ x. upper-by (class-for x) (a .nth) (a .upper) (a .share) (a .mean) (a .time)) (c .before .enum-told3 .given .1))
 
 pub further-spec : {M : Type 1} → statement M
 further-spec =
@@ -72,7 +74,7 @@ further-spec =
     times-up-requires
     enum-told
     times-up-requires-2
-    over-up-requires
+    divided-up-requires
     enum-told-2
     enum-told-3
     times-up-requires-3

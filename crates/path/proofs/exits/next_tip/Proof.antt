@@ -1,16 +1,15 @@
 -- `next_tip` meets its contract. Assumes nothing.
-use mathlib.Core.Path.{ap}
 use native.Mathlib.Omega.{arith}
 use borrow.Author.Needs.{needs}
-use Rattle.figure.specs.Operations.{of-whole}
-use Rattle.path.proofs.ExitTips.{tip-made}
+use Rattle.path.proofs.ExitTips.{divisor, tip-made}
 use Rattle.path.proofs.exits.next_tip.Statement.{statement}
 use Rattle.path.proofs.exits.next_tip.Tie as tie
 
 further-requires : tie.Need-further-requires
 further-requires c κs =
     let h = c .before .pre in
-    (h .0 .0, h .0 .1, h .0 .2, h .0 .3, omega (arith, h .1), omega (arith, h .1, h .0 .4))
+    let d = divisor _ (omega arith) (omega (arith, h .0 .4)) (h .1) in
+    (h .0 .0, h .0 .1, h .0 .2, h .0 .3, d .0, d .1)
 
 counts-1-requires : tie.Need-counts-1-requires
 counts-1-requires c κs = search needs
@@ -25,7 +24,7 @@ returns : tie.Need-returns
 returns c =
     let k = c .before .before in
     let f = k .before in
-    tip-made _ _ _ _ _ _ (ap of-whole (f .before .before .pre .1)) (f .further .ensures) (k .counts-1 .ensures .0)
+    tip-made _ _ _ _ _ _ (f .before .before .pre .1) (f .further .ensures) (k .counts-1 .ensures .0)
 
 pub next-tip-spec : {M : Type 1} → statement M
 next-tip-spec = tie.close (tie.spec further-requires counts-1-requires add-t11 add-t12 returns)

@@ -12,22 +12,28 @@ use Rattle.path.proofs.lower.last_factor.Tie as tie
 times-up-requires : tie.Need-times-up-requires
 times-up-requires c κs = search needs
 
-add-over-up : tie.Need-add-over-up
-add-over-up c = search needs
-
-over-up-requires : tie.Need-over-up-requires
-over-up-requires c κs =
-    let p = c .before .pre in
-    (rw (c .times-up .ensures) (sized-≤ (lit≤ tt) (times-up-sized (p .0) (p .1))), omega arith, omega (arith, p .2))
+add-of-whole : tie.Need-add-of-whole
+add-of-whole c = search needs
 
 of-whole-requires : tie.Need-of-whole-requires
 of-whole-requires c κs = search needs
 
+divided-up-requires : tie.Need-divided-up-requires
+divided-up-requires c κs =
+    let p = c .before .before .pre in (
+      rw (c .before .times-up .ensures) (sized-≤ (lit≤ tt) (times-up-sized (p .0) (p .1))),
+      rw (c .of-whole .ensures) (sized-≤ (lit≤ tt) (count-sized _ (le-trans {m = 25} (omega (arith, p .2)) (lit≤ tt)))),
+      rw (c .of-whole .ensures) (of-whole-above _ (omega arith)),
+    )
+
+of-whole-requires-2 : tie.Need-of-whole-requires-2
+of-whole-requires-2 c κs = search needs
+
 minus-down-requires : tie.Need-minus-down-requires
 minus-down-requires c κs =
-    let p = c .before .before .before .pre in (
-      rw (c .of-whole .ensures) (sized-≤ (lit≤ tt) (of-whole-sized 1 (lit≤ tt))),
-      rw (c .before .over-up .ensures, c .before .before .times-up .ensures)
+    let p = c .before .before .before .before .pre in (
+      rw (c .of-whole2 .ensures) (sized-≤ (lit≤ tt) (of-whole-sized 1 (lit≤ tt))),
+      rw (c .before .divided-up .ensures, c .before .before .of-whole .ensures, c .before .before .before .times-up .ensures)
           (sized-≤ (lit≤ tt) (divided-up-sized (times-up-sized (p .0) (p .1)) (count-sized _ (le-trans {m = 25} (omega (arith, p .2)) (lit≤ tt)))
           (of-whole-above _ (omega arith)))),
     )
@@ -40,8 +46,9 @@ last-factor-spec =
     tie.close
     (tie.spec
     times-up-requires
-    add-over-up
-    over-up-requires
+    add-of-whole
     of-whole-requires
+    divided-up-requires
+    of-whole-requires-2
     minus-down-requires
     returns)

@@ -108,14 +108,17 @@ times-down-requires-2 c κs =
     let d = turn (u .before .before) in
     (rw (c .times-down .ensures) (sized-≤ (lit≤ tt) (times-down-sized (so-far-sized d) (share-sized u))), sized-≤ (lit≤ tt) (start d .pre .2))
 
-over-down-requires : tie.Need-over-down-requires Inv-loop μ-loop
-over-down-requires c κs =
-    let u = c .before .before in
+of-whole-requires-2 : tie.Need-of-whole-requires-2 Inv-loop μ-loop
+of-whole-requires-2 c κs = search needs
+
+divided-down-requires : tie.Need-divided-down-requires Inv-loop μ-loop
+divided-down-requires c κs =
+    let u = c .before .before .before in
     let d = turn (u .before .before) in (
-      rw (c .times-down2 .ensures, c .before .times-down .ensures)
+      rw (c .before .times-down2 .ensures, c .before .before .times-down .ensures)
           (sized-≤ (lit≤ tt) (times-down-sized (times-down-sized (so-far-sized d) (share-sized u)) (start d .pre .2))),
-      omega arith,
-      omega (arith, more-ones d),
+      rw (c .of-whole2 .ensures) (sized-≤ (lit≤ tt) (count-sized _ (le-trans {m = 24} (omega (arith, more-ones d)) (lit≤ tt)))),
+      rw (c .of-whole2 .ensures) (of-whole-above _ (omega arith)),
     )
 
 factor-requires : tie.Need-factor-requires Inv-loop μ-loop
@@ -139,7 +142,7 @@ loop-again c =
     let so-far = k .before .loop .inv .1 in (
       omega (arith, k .loop-test .taken),
       rw (path-more (net k) (start k .args .t4) (k .before .loop .i) (at d .wide .ensures .0)) (⊎-elim
-          (λ w. rw (w .5, w .6, w .4 .ensures, w .3 .ensures, w .2 .ensures)
+          (λ w. rw (w .6, w .7, w .5 .ensures, w .4 .ensures, w .3 .ensures, w .2 .ensures)
           (multiplied-one _ so-far (one-true _ (sym (tested d) ∙ w .0 .taken)) (share-held (filled k) (inside (at d)) (w .1 .ensures))))
           (λ w. rw (w .3, w .4, w .2 .ensures)
           (multiplied-other _ so-far (one-false _ (sym (tested d) ∙ w .0 .left)) (factor-held (filled k) (inside (at d)) (w .1 .ensures))))
@@ -168,7 +171,8 @@ product-spec =
     share-requires
     times-down-requires
     times-down-requires-2
-    over-down-requires
+    of-whole-requires-2
+    divided-down-requires
     factor-requires
     times-down-requires-3
     add-i
