@@ -8,7 +8,7 @@ In a cell of the trace's and the glossary's tables and in an item of the claims 
 answer otherwise", what stands in backticks is a file (it has a slash and a suffix, or ends in stdin or stdout) or a name, which belongs to the file before it
 in that cell or item. Of all else in the claims and the
 architecture only files are looked at, but for those with a word such as NAME in their path. Files are below crates/ or else below the repository's root.
-In the trace's column of vectors a name without a file is a case of reference/tests/data/models.txt, papers.txt, rows.txt or or.txt, and one letter is one of
+In the trace's column of vectors a name without a file is a case of reference/tests/data/models.txt, papers.txt, rows.txt, or.txt or products.txt, and one letter is one of
 document 01's models A to L, as the list in crates/tree/specs/Marked.antt has it. A cell that holds only a dash is empty.
 
 The rows below a heading "Document 02, Item N" of the trace have the sentences of that item, all other rows those of document 01. A document whose paragraphs
@@ -23,7 +23,8 @@ ROOT = Path(__file__).resolve().parent.parent
 TRACE, CLAIMS, GLOSSARY, ARCHITECTURE = "docs/TRACE.md", "docs/CLAIMS.md", "docs/GLOSSARY.md", "docs/ARCHITECTURE.md"
 ITEMS = ("- Says so:", "- Refused edits:", "- A model that would answer otherwise:", "- Models that would answer otherwise:",
          "- Pairs that would answer otherwise:")
-MODELS = ["reference/tests/data/models.txt", "reference/tests/data/papers.txt", "reference/tests/data/rows.txt", "reference/tests/data/or.txt"]
+MODELS = ["reference/tests/data/models.txt", "reference/tests/data/papers.txt", "reference/tests/data/rows.txt", "reference/tests/data/or.txt",
+          "reference/tests/data/products.txt"]
 MARKED = "tree/specs/Marked.antt"
 EMPTY = "—"
 HEADING = re.compile(r"## Document 02, Item (\d+)\b")

@@ -9,7 +9,7 @@ use Rattle.figure.specs.declared.Figure.{Figure}
 use Rattle.figure.specs.Rounding.{figure}
 use Rattle.figure.specs.Operations.{times-up, times-down}
 use Rattle.figure.specs.Losses.{times-keeps}
-use Rattle.figure.specs.Products.{product-divisor}
+use Rattle.figure.specs.Products.{product-divisor, divided-once}
 
 -- two figures; what the product of their digits is divided by, their product rounded up and down, and whether nothing is lost
 pub record ProductCase : Type 0 where
@@ -92,5 +92,7 @@ abbrev pub worked-out : ProductCase → ProductCase
 worked-out c = let a = c .first in let b = c .second in
     case a b (product-divisor (a .digits * b .digits)) (times-up a b) (times-down a b) (times-keeps a b)
 
+-- all of it, and the rounding down once more, by the one division
 unfoldable pub ProductCasesAgree : Type 0
-ProductCasesAgree = map worked-out product-cases ≡ product-cases
+ProductCasesAgree =
+    (map worked-out product-cases ≡ product-cases) × (map (λ c. divided-once (c .first) (c .second)) product-cases ≡ map (λ c. c .down) product-cases)
