@@ -35,7 +35,7 @@ use Rattle.figure.proofs.Figures.{digits-high, digits-low, room, rounde
 
 -- ---- the scaling
 
--- both are worked out from the one comparison
+-- at most one digit more than 17
 pub eighteenth-high : (p : ℕ) → eighteenth p ≤ 1
 unfolding eighteenth
 eighteenth-high p = go (ltb p (10 ^ 17))
@@ -44,7 +44,7 @@ eighteenth-high p = go (ltb p (10 ^ 17))
     go true = lit≤ tt
     go false = lit≤ tt
 
--- the comparison as a number
+-- the comparison as the code has it
 pub eighteenth-is : (p : ℕ) → boolByte (leb 100000000000000000 p) ≡ eighteenth p
 unfolding eighteenth
 eighteenth-is p = go (decLe (10 ^ 17) p)

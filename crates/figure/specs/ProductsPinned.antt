@@ -38,11 +38,11 @@ product-cases =
     -- the least product and the greatest
     case (100000000 e- 8) (100000000 e 0) 100000000 (100000000 e 0) (100000000 e 0) true
     ∷ case (999999999 e- 8) (999999999 e 0) 1000000000 (999999999 e 1) (999999998 e 1) false
-    -- 10^17 itself, twice, and a product right below it that is exact
+    -- 10^17 itself, twice, and the greatest product below it that loses nothing
     ∷ case (200000000 e- 8) (500000000 e 0) 1000000000 (100000000 e 1) (100000000 e 1) true
     ∷ case (125000000 e- 8) (800000000 e 0) 1000000000 (100000000 e 1) (100000000 e 1) true
     ∷ case (100000000 e- 8) (999999999 e 0) 100000000 (999999999 e 0) (999999999 e 0) true
-    -- rounded at both ends, and the squares on the two sides of 10^17: the one below it carries on rounding up
+    -- the two figures of model L, and the squares on the two sides of 10^17: the one below it carries on rounding up
     ∷ case (100000001 e- 8) (100000001 e 0) 100000000 (100000003 e 0) (100000002 e 0) false
     ∷ case (316227766 e- 8) (316227766 e 0) 100000000 (100000000 e 1) (999999999 e 0) false
     ∷ case (316227767 e- 8) (316227767 e 0) 1000000000 (100000001 e 1) (100000000 e 1) false
