@@ -1,4 +1,6 @@
 // From a model's words to a report: the index and the tables, the walk over the cut tree, the answer and the rows.
+#![tactic(auto)]
+
 ghost use Rattle.std.specs.Prelude.{◌≡◌, ◌≤◌};
 ghost use Rattle.model.specs.Promise.{summary};
 ghost use Rattle.tree.specs.Internal.Tally as running;
@@ -30,7 +32,7 @@ mod walk;
 
 // The lower and the upper figure, the cut paths' part of the upper, the counts of death paths, cut paths and steps, and whether no operation that the
 // lower or the upper figure rests on lost anything: then it equals its exact sum.
-#[derive(Drop)]
+#[derive(Clone, Copy)]
 pub struct Report {
     pub lower: Figure,
     pub upper: Figure,
@@ -42,7 +44,7 @@ pub struct Report {
     pub upper_exact: bool,
 }
 
-#[derive(Drop)]
+#[derive(Clone, Copy)]
 pub enum Answer {
     Report(Report),
     Refused(Refusal),

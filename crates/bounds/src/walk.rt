@@ -13,7 +13,7 @@ use rows::table::{RowTable, is_kept, is_open, note_cut, note_death};
 use tables::table::Table;
 
 // What stays the same in a walk: the mission time, the prune level, the entry limit and the budget.
-#[derive(Drop)]
+#[derive(Clone, Copy)]
 pub(crate) struct Task {
     pub time: Figure,
     pub level: Figure,

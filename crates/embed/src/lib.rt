@@ -1,4 +1,6 @@
 // The library for C and for what calls C: numbers and slices of numbers in, numbers out. `include/bounds.h` declares these functions.
+#![tactic(auto)]
+
 ghost use Rattle.std.specs.Prelude.{◌≡◌, [], ◌∷◌, take};
 ghost use Rattle.word.specs.Answer.{granted};
 ghost use Rattle.word.specs.Model.{one_if};

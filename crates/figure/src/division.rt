@@ -6,7 +6,7 @@ ghost use Rattle.figure.specs.Internal.Steps.{Width, part, shorter, carry, direc
 use crate::{Figure, powers};
 
 // A quotient of whole numbers, and whether something was left over.
-#[derive(Drop)]
+#[derive(Clone, Copy)]
 pub(crate) struct Part {
     pub(crate) whole: u64,
     pub(crate) rest: bool,

@@ -1,5 +1,7 @@
 // Figures: nine digits and a power of ten, every operation rounded once. Totals have the same form with eighteen digits. Each operation that rounds has a
 // form beside it that tells whether it lost anything: it rounds both ways, and nothing is lost exactly if both come to the same figure.
+#![tactic(auto)]
+
 ghost use Rattle.std.specs.Prelude.{◌≡◌, ◌≤◌, ◌<◌};
 ghost use Rattle.std.specs.Int.Signed.{mag};
 ghost use Rattle.figure.specs.Rounding.{none, IsFigure};
@@ -22,14 +24,14 @@ mod total;
 mod whole;
 
 #[repr(C)]
-#[derive(Drop)]
+#[derive(Clone, Copy)]
 pub struct Figure {
     pub digits: u64,
     pub power: i32,
 }
 
 // A figure that something was rounded to, and whether nothing was lost.
-#[derive(Drop)]
+#[derive(Clone, Copy)]
 pub struct Rounded {
     pub figure: Figure,
     pub kept: bool,

@@ -10,7 +10,7 @@ use crate::division::Part;
 use crate::{Figure, division, powers};
 
 // The first nine digits of a product, and how many more it has.
-#[derive(Drop)]
+#[derive(Clone, Copy)]
 struct Scaled {
     part: Part,
     dropped: i32,

@@ -1,1 +1,2 @@
 // Exact fractions: definitions and laws alone, no code.
+#![tactic(auto)]

@@ -1,4 +1,6 @@
 // The word table of a model: its reading, with refusals 1 to 11, 15 and 16, and the index of its exits.
+#![tactic(auto)]
+
 mod conclusion;
 pub mod index;
 mod named;
@@ -20,7 +22,7 @@ pub const MOST_WORDS: usize = 16_105;
 
 // What an accepted model's first four words say: the number of states, the start, the step limit, the entry limit, the mission time and the
 // prune level. Its transitions and the generator's states stand in the index.
-#[derive(Drop)]
+#[derive(Clone, Copy)]
 pub struct Accepted {
     pub states: usize,
     pub start: usize,
@@ -30,7 +32,7 @@ pub struct Accepted {
     pub prune: Quantity,
 }
 
-#[derive(Drop)]
+#[derive(Clone, Copy)]
 pub enum Reading {
     Accepted(Accepted),
     Refused(Refusal),

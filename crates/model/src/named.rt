@@ -9,7 +9,7 @@ use word::fields::{kind, named_state, word_at};
 use word::{Refusal, Verdict, faults};
 
 // What the words that name states say: the place behind them, where the transitions begin.
-#[derive(Drop)]
+#[derive(Clone, Copy)]
 pub(crate) enum Naming {
     From(usize),
     Refused(Refusal),

@@ -47,7 +47,7 @@ fn body(words: &[u32], at: usize, fast: bool) -> Verdict
 }
 
 // What stands where a transition or the end is called for: the place behind it, or that it is the end.
-#[derive(Drop)]
+#[derive(Clone, Copy)]
 enum Step {
     To(usize),
     End,

@@ -1,5 +1,7 @@
 // The probabilistic OR of independent subsystems' runs, after SURE's command ORPROB: from the lower and the upper figure of each run, a lower and an
 // upper figure for the probability that at least one of the subsystems fails. That they fail independently is the caller's to know.
+#![tactic(auto)]
+
 ghost use Rattle.orprob.specs.Promise.{Promised};
 
 use figure::Figure;
@@ -11,14 +13,14 @@ mod pairs;
 pub const MOST_PAIRS: usize = 16;
 
 // The lower and the upper figure of one run.
-#[derive(Drop)]
+#[derive(Clone, Copy)]
 pub struct Pair {
     pub lower: Figure,
     pub upper: Figure,
 }
 
 // The two figures; or why there are none: no pair or a 17th, or a pair that is none, with its index from 0.
-#[derive(Drop)]
+#[derive(Clone, Copy)]
 pub enum Combined {
     Figures(Pair),
     PairCountOutOfRange,

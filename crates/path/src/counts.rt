@@ -3,7 +3,7 @@ ghost use Rattle.std.specs.Prelude.{◌≡◌, ◌<◌, ◌≤◌};
 ghost use Rattle.path.specs.Internal.Counts.{Few, no_counts, death_more, cut_more, step_more};
 
 // The numbers of death paths, cut paths and steps.
-#[derive(Drop)]
+#[derive(Clone, Copy)]
 pub struct Counts {
     pub deaths: u64,
     pub cuts: u64,

@@ -23,7 +23,7 @@ use tables::table::{Table, factor, grains, rate_sum, share};
 
 // What the deaths share that leave one state by one class and with the same grains: 1 if N' fills the mission time, so that their lowers are 0; else 0,
 // down(t), the product up to that state and the last factor.
-#[derive(Drop)]
+#[derive(Clone, Copy)]
 pub struct Stem {
     pub filled: u64,
     pub time: Figure,
@@ -33,14 +33,14 @@ pub struct Stem {
 
 // The stem of the deaths that leave the walk's state by a slow exit, with 1 once the first was met, and 0 before. (Flags are whole numbers: the padding
 // behind a bool, copied with the struct, slowed the walk down.)
-#[derive(Drop)]
+#[derive(Clone, Copy)]
 pub struct Cache {
     pub known: u64,
     pub stem: Stem,
 }
 
 // The lower of a death path, and the cache after it.
-#[derive(Drop)]
+#[derive(Clone, Copy)]
 pub struct Died {
     pub lower: Figure,
     pub cache: Cache,

@@ -13,7 +13,7 @@ use tables::table::{Table, mean_up, share};
 use word::fields::{is_fast, to};
 
 // The end of a path: its last state, its rounded upper, its class 1 steps and its steps.
-#[derive(Drop)]
+#[derive(Clone, Copy)]
 pub struct Tip {
     pub state: usize,
     pub upper: Figure,
@@ -22,7 +22,7 @@ pub struct Tip {
 }
 
 // An exit of a state: the index of its transition, its class and the tip beyond it.
-#[derive(Drop)]
+#[derive(Clone, Copy)]
 pub struct Exit {
     pub index: u16,
     pub class: Class,

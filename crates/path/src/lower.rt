@@ -17,7 +17,7 @@ use tables::table::{Table, factor, grains, mean_up, rate_sum, share};
 use word::fields::{from, is_fast};
 
 // The class of a step, and the state that it leaves.
-#[derive(Drop)]
+#[derive(Clone, Copy)]
 pub(crate) struct Leaving {
     pub class: Class,
     pub state: usize,
@@ -36,7 +36,7 @@ pub(crate) fn left_by(words: &[u32], index: &Index, table: &Table, j: usize) -> 
 }
 
 // N' and A of a path.
-#[derive(Drop)]
+#[derive(Clone, Copy)]
 pub(crate) struct Spent {
     pub grains: u64,
     pub rates: Figure,

@@ -107,7 +107,7 @@ fn upper_kept(
 // ---- the lower
 
 // N', A and k of a path, with the marks of its grains and of A.
-#[derive(Drop)]
+#[derive(Clone, Copy)]
 struct SpentTold {
     pub grains: u64,
     pub grains_kept: bool,

@@ -8,7 +8,7 @@ use figure::Figure;
 use model::index::{Index, is_named};
 
 // What becomes of a path, with its reason.
-#[derive(Drop)]
+#[derive(Clone, Copy)]
 pub enum Outcome {
     GeneratorsState,
     Death,

@@ -1,5 +1,7 @@
 // Reads a model's words from standard input, four bytes a word, and writes its report or why it is refused. Where the input cannot be read there is no
 // answer, and where the answer cannot be written it is not whole: either is told on standard error.
+#![tactic(auto)]
+
 ghost use Rattle.io.specs.Counts.{IsPrefixLen};
 
 use libc::{STDERR_FILENO, STDIN_FILENO, STDOUT_FILENO};

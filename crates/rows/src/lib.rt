@@ -1,5 +1,7 @@
 // The rows of a model, one for each state without exits that is the target of a transition and none of the generator's: which they are, their totals,
 // and the caller's rows filled from them.
+#![tactic(auto)]
+
 ghost use Rattle.std.specs.Prelude.{◌≡◌, length};
 ghost use Rattle.rows.specs.Internal.Table.{row_count};
 ghost use Rattle.rows.specs.Internal.Filling.{Fits, row_in, stored};

@@ -6,7 +6,7 @@ ghost use Rattle.tables.specs.Internal.Classes.{class_by, class_for, is_class1, 
 use figure::Figure;
 
 // Class 1: a slow step from a state without fast exits. Class 2: a fast step. Class 3: a slow step from a state with fast exits.
-#[derive(Drop)]
+#[derive(Clone, Copy)]
 pub enum Class {
     Class1,
     Class2,

@@ -1,4 +1,6 @@
 // The table of what belongs to a state or to a transition alone, filled once, and the classes of steps.
+#![tactic(auto)]
+
 ghost use Rattle.std.specs.Prelude.{◌≡◌, ◌≤◌, length};
 ghost use Rattle.model.specs.Promise.{summary};
 ghost use Rattle.tables.specs.Internal.Described.{Indexes, described, exit_total};

@@ -13,7 +13,7 @@ use model::index::{Index, exit_count, place_of, slot, wide};
 use word::fields::is_fast;
 
 // E, h rounded up, h rounded down (h') and H of a state, each with its mark.
-#[derive(Drop)]
+#[derive(Clone, Copy)]
 struct Sums {
     pub rate: Rounded,
     pub up: Rounded,

@@ -17,7 +17,7 @@ use model::index::{Index, place_of};
 use word::fields::{from, is_fast, word_at};
 
 // An exit's rate or probability, its grains with their mark, and its factor in a lower with its own.
-#[derive(Drop)]
+#[derive(Clone, Copy)]
 struct Step {
     pub share: Figure,
     pub grains: u64,

@@ -1,4 +1,6 @@
 // The report program's two turnings, bytes into words and an answer into text, and all that it does between reading and writing.
+#![tactic(auto)]
+
 pub mod answers;
 pub mod bytes;
 pub mod program;

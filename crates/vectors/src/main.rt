@@ -1,5 +1,7 @@
 // Answers every model of its input, one after the other, and writes each answer under the model's name. README.md says how the input is laid
 // out.
+#![tactic(auto)]
+
 ghost use Rattle.io.specs.Counts.{IsPrefixLen};
 
 use libc::{STDIN_FILENO, STDOUT_FILENO};

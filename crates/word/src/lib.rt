@@ -1,17 +1,19 @@
 // One word of the table: its fields, what can be wrong with it, and the documents' refusals.
+#![tactic(auto)]
+
 pub mod faults;
 pub mod fields;
 mod reasons;
 
 // A quantity of the table: coefficient / 10^scale.
-#[derive(Drop)]
+#[derive(Clone, Copy)]
 pub struct Quantity {
     pub coefficient: u32,
     pub scale: u32,
 }
 
 // Why a model is turned away, with the word's place, the state or the number of rows needed where the documents give one.
-#[derive(Drop)]
+#[derive(Clone, Copy)]
 pub enum Refusal {
     TooManyWords,
     BudgetOutOfRange,
@@ -31,7 +33,7 @@ pub enum Refusal {
 }
 
 // What a test of one word or of several says.
-#[derive(Drop)]
+#[derive(Clone, Copy)]
 pub enum Verdict {
     Fine,
     Refused(Refusal),

@@ -1,0 +1,8 @@
+-- `Figure::divided_down` meets its contract. Assumes nothing.
+use borrow.Author.Rules.{rules}
+use Rattle.figure.specs.Operations.{divided_down}
+use Rattle.figure.proofs.Figure.divided_down.Goals as goal
+
+pub returns : goal.returns
+unfolding divided_down
+returns c = c.divided.ensures

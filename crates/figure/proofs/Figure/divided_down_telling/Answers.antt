@@ -1,0 +1,11 @@
+-- `Figure::divided_down_telling` meets its contract. Assumes nothing.
+use mathlib.Core.Bool.{false}
+use borrow.Author.Rules.{rules}
+use Rattle.figure.specs.Operations.{divided_down}
+use Rattle.figure.specs.Losses.{divided_keeps}
+use Rattle.figure.proofs.Tellings.{told_by}
+use Rattle.figure.proofs.Figure.divided_down_telling.Goals as goal
+
+pub returns : goal.returns
+unfolding divided_down divided_keeps
+returns c = told_by 8 _ false c.divided-figure.ensures c.divided.ensures c.told.ensures

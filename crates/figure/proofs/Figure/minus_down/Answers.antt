@@ -1,0 +1,8 @@
+-- `Figure::minus_down` meets its contract. Assumes nothing.
+use borrow.Author.Rules.{rules}
+use Rattle.figure.specs.Operations.{minus_down}
+use Rattle.figure.proofs.Figure.minus_down.Goals as goal
+
+pub returns : goal.returns
+unfolding minus_down
+returns c = c.minus.ensures

@@ -1,0 +1,8 @@
+-- `Figure::minus_up` meets its contract. Assumes nothing.
+use borrow.Author.Rules.{rules}
+use Rattle.figure.specs.Operations.{minus_up}
+use Rattle.figure.proofs.Figure.minus_up.Goals as goal
+
+pub returns : goal.returns
+unfolding minus_up
+returns c = c.minus.ensures

@@ -1,0 +1,11 @@
+-- `Figure::minus_up_telling` meets its contract. Assumes nothing.
+use mathlib.Core.Bool.{true}
+use borrow.Author.Rules.{rules}
+use Rattle.figure.specs.Operations.{minus_up}
+use Rattle.figure.specs.Losses.{minus_keeps}
+use Rattle.figure.proofs.Tellings.{told_by}
+use Rattle.figure.proofs.Figure.minus_up_telling.Goals as goal
+
+pub returns : goal.returns
+unfolding minus_up minus_keeps
+returns c = told_by 8 _ true c.minus-figure.ensures c.minus.ensures c.told.ensures

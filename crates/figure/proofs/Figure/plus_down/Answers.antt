@@ -1,0 +1,8 @@
+-- `Figure::plus_down` meets its contract. Assumes nothing.
+use borrow.Author.Rules.{rules}
+use Rattle.figure.specs.Operations.{plus_down}
+use Rattle.figure.proofs.Figure.plus_down.Goals as goal
+
+pub returns : goal.returns
+unfolding plus_down
+returns c = c.plus.ensures

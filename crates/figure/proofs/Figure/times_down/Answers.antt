@@ -1,0 +1,8 @@
+-- `Figure::times_down` meets its contract. Assumes nothing.
+use borrow.Author.Rules.{rules}
+use Rattle.figure.specs.Operations.{times_down}
+use Rattle.figure.proofs.Figure.times_down.Goals as goal
+
+pub returns : goal.returns
+unfolding times_down
+returns c = c.times.ensures

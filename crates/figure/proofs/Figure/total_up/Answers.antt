@@ -1,0 +1,14 @@
+-- `Figure::total_up` meets its contract. Assumes nothing.
+use mathlib.Core.Bool.{true}
+use borrow.Author.Rules.{rules}
+use Rattle.figure.specs.Operations.{total_up}
+use Rattle.figure.proofs.Figures.{sized_more}
+use Rattle.figure.proofs.Totals.{eighteen, widening_sized, total_answer}
+use Rattle.figure.proofs.Figure.total_up.Goals as goal
+
+pub plus-requires : goal.plus-requires
+plus-requires c = (eighteen, sized_more c.requires.0, rw c.widened.ensures (widening_sized c.requires.1))
+
+pub returns : goal.returns
+unfolding total_up
+returns c = total_answer c.requires.1 true c.args.self c.widened.ensures c.plus.ensures

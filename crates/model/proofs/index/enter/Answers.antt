@@ -1,0 +1,6 @@
+-- `model::index::enter` meets its contract. Assumes nothing.
+use borrow.Author.Rules.{rules}
+use Rattle.model.proofs.index.enter.Goals as goal
+
+pub returns : goal.returns
+returns c = rw c.exit_count-n.ensures.0

@@ -1,0 +1,16 @@
+use Prim.Native.Nat.{◌+◌, ◌-◌, ◌≤◌}
+use mathlib.Core.Path.{◌≡◌, sym, ap, ◌∙◌}
+use native.Mathlib.Omega.{arith}
+use borrow.Author.Rules.{rules}
+use Rattle.word.specs.Model.{Net}
+use Rattle.model.specs.Reading.{uneven, lowest}
+use Rattle.model.specs.Internal.Parts.{slot_transitions, sums_uneven, Through}
+use Rattle.model.proofs.Stopping.{lowest_all, lowest_turn, lowest_next, lowest_none_left}
+use Rattle.model.proofs.probabilities.lowest_uneven.Given as goal
+
+abbrev pub invariant-loop-s : goal.invariant-loop-s
+invariant-loop-s l = (1 ≤ l.s) × ((l.s ≤ l.states + 1) × ((net : Net) → Through l.words l.index l.states net → lowest (uneven net) (l.states + 1 - l.s) l.s ≡ lowest (uneven net) l.states 1))
+
+abbrev pub decreases-loop-s : goal.decreases-loop-s
+decreases-loop-s l = l.states + 1 - l.s
+

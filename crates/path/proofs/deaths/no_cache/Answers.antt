@@ -1,0 +1,7 @@
+-- `no_cache` meets its contract: nothing is known. Assumes nothing.
+use native.Mathlib.Omega.{arith}
+use borrow.Author.Rules.{rules}
+use Rattle.path.proofs.deaths.no_cache.Goals as goal
+
+pub returns : goal.returns
+returns c = λ net p s. record { stem_is = λ e. absurd (omega (arith, e)); sized = c.filled_stem.ensures.1 }

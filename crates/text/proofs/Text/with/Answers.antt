@@ -1,0 +1,12 @@
+-- `text::Text::with` meets its contract: one byte is stored behind the others. Assumes nothing.
+use mathlib.Core.Path.{◌≡◌, sym, ◌∙◌}
+use native.Mathlib.Omega.{arith}
+use borrow.Author.Rules.{rules}
+use lib.ListN.{length, length-map}
+use Rattle.text.proofs.Pieces.{added_one}
+use Rattle.text.proofs.Text.with.Goals as goal
+
+-- An array of the type has 256 elements: the last part of what owning the parameter tells.
+pub returns : goal.returns
+returns c = 
+    let whole : length c.args.self.bytes ≡ 256 = sym (length-map c.args.self.bytes (λ v. v)) ∙ c.well-formed.0.1.1.0.1.0.1 in added_one c.args.self c.args.b (omega (arith, whole, c.requires.within))

@@ -1,0 +1,6 @@
+-- `text::answers::refusal_text` meets its contract, by what `number` and `place` say. Assumes nothing.
+use borrow.Author.Rules.{rules}
+use Rattle.text.proofs.answers.refusal_text.Goals as goal
+
+pub returns : goal.returns
+returns c = rw (c.number.ensures, c.place.ensures) at c.numbered.ensures

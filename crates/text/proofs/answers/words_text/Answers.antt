@@ -1,0 +1,8 @@
+-- `text::answers::words_text` meets its contract, by what the entry point promises. Assumes nothing.
+use borrow.Author.Rules.{rules}
+use Rattle.text.proofs.Lending.{rules}
+use Rattle.text.proofs.answers.words_text.Goals as goal
+
+pub returns : goal.returns
+returns c = 
+    (rw (c.unreliability.ensures.answer_is, c.unreliability.ensures.marks_are) at c.answer_text.ensures, (rules _ _, c.unreliability.ensures.words_unchanged))
