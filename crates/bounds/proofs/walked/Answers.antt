@@ -13,9 +13,9 @@ pub figure_of-requires-2 : goal.figure_of-requires-2
 figure_of-requires-2 c = prune_scale c.requires.0.0 c.requires.0.1
 
 pub walk-requires : goal.walk-requires
-walk-requires c = 
+walk-requires c =
     walk_ready c.requires.0.0 c.requires.0.1 c.fill.ensures c.figure_of.ensures c.figure_of-2.ensures c.of_whole.ensures _ c.requires.0.2 _ c.nothing.ensures _ c.requires.1
 
 pub returns : goal.returns
-returns c = 
+returns c =
     walk_tree c.requires.0.0 c.requires.0.1 c.fill.ensures c.figure_of.ensures c.figure_of-2.ensures c.of_whole.ensures _ c.requires.0.2 _ c.nothing.ensures _ c.requires.1 c.walk.ensures

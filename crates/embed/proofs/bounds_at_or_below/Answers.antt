@@ -10,28 +10,27 @@ use Rattle.embed.proofs.Compared.{told, told_figure, told_order, no_first, no_se
 use Rattle.embed.proofs.bounds_at_or_below.Goals as goal
 
 pub returns-then-not-is_figure : goal.returns-then-not-is_figure
-returns-then-not-is_figure c = 
-    no_first _ _ (told c.args.digits c.args.power c.ranges.power false c.is_figure.ensures (not-true _ c.if-not-is_figure.true))
+returns-then-not-is_figure c = no_first _ _ (told c.args.digits c.args.power c.ranges.power false c.is_figure.ensures c.if-not-is_figure.true)
 
 pub returns-then-not-is_figure-2 : goal.returns-then-not-is_figure-2
-returns-then-not-is_figure-2 c = 
-    let first : figure_test (figure c.args.digits c.args.power) ≡ true = told c.args.digits c.args.power c.ranges.power true c.is_figure.ensures (not-false _ c.if-not-is_figure.false) in
-    no_second _ _ first (told c.args.limit_digits c.args.limit_power c.ranges.limit_power false c.is_figure-2.ensures (not-true _ c.if-not-is_figure-2.true))
+returns-then-not-is_figure-2 c =
+    let first : figure_test (figure c.args.digits c.args.power) ≡ true = told c.args.digits c.args.power c.ranges.power true c.is_figure.ensures c.if-not-is_figure.false in
+    no_second _ _ first (told c.args.limit_digits c.args.limit_power c.ranges.limit_power false c.is_figure-2.ensures c.if-not-is_figure-2.true)
 
 pub at_or_below-requires : goal.at_or_below-requires
-at_or_below-requires c = 
-    ( told_figure c.args.digits c.args.power c.ranges.power c.is_figure.ensures (not-false _ c.if-not-is_figure.false), told_figure c.args.limit_digits c.args.limit_power c.ranges.limit_power c.is_figure-2.ensures (not-false _ c.if-not-is_figure-2.false), )
+at_or_below-requires c =
+    (told_figure c.args.digits c.args.power c.ranges.power c.is_figure.ensures c.if-not-is_figure.false, told_figure c.args.limit_digits c.args.limit_power c.ranges.limit_power c.is_figure-2.ensures c.if-not-is_figure-2.false)
 
 pub returns-then-at_or_below : goal.returns-then-at_or_below
-returns-then-at_or_below c = 
-    let first : figure_test (figure c.args.digits c.args.power) ≡ true = told c.args.digits c.args.power c.ranges.power true c.is_figure.ensures (not-false _ c.if-not-is_figure.false) in
-    let second : figure_test (figure c.args.limit-digits c.args.limit-power) ≡ true = told c.args.limit_digits c.args.limit_power c.ranges.limit_power true c.is_figure-2.ensures (not-false _ c.if-not-is_figure-2.false) in
+returns-then-at_or_below c =
+    let first : figure_test (figure c.args.digits c.args.power) ≡ true = told c.args.digits c.args.power c.ranges.power true c.is_figure.ensures c.if-not-is_figure.false in
+    let second : figure_test (figure c.args.limit-digits c.args.limit-power) ≡ true = told c.args.limit_digits c.args.limit_power c.ranges.limit_power true c.is_figure-2.ensures c.if-not-is_figure-2.false in
     let order : c.at_or_below.result ≡ t → at_or_below (figure c.args.digits c.args.power) (figure c.args.limit-digits c.args.limit-power) ≡ t = told_order c.args.digits c.args.power c.args.limit_digits c.args.limit_power c.ranges.power c.ranges.limit_power t c.at_or_below.ensures e in
     below _ _ first second (order true c.if-at_or_below.true)
 
 pub returns-else-at_or_below : goal.returns-else-at_or_below
-returns-else-at_or_below c = 
-    let first : figure_test (figure c.args.digits c.args.power) ≡ true = told c.args.digits c.args.power c.ranges.power true c.is_figure.ensures (not-false _ c.if-not-is_figure.false) in
-    let second : figure_test (figure c.args.limit-digits c.args.limit-power) ≡ true = told c.args.limit_digits c.args.limit_power c.ranges.limit_power true c.is_figure-2.ensures (not-false _ c.if-not-is_figure-2.false) in
+returns-else-at_or_below c =
+    let first : figure_test (figure c.args.digits c.args.power) ≡ true = told c.args.digits c.args.power c.ranges.power true c.is_figure.ensures c.if-not-is_figure.false in
+    let second : figure_test (figure c.args.limit-digits c.args.limit-power) ≡ true = told c.args.limit_digits c.args.limit_power c.ranges.limit_power true c.is_figure-2.ensures c.if-not-is_figure-2.false in
     let order : c.at_or_below.result ≡ t → at_or_below (figure c.args.digits c.args.power) (figure c.args.limit-digits c.args.limit-power) ≡ t = told_order c.args.digits c.args.power c.args.limit_digits c.args.limit_power c.ranges.power c.ranges.limit_power t c.at_or_below.ensures e in
     above _ _ first second (order false c.if-at_or_below.false)

@@ -3,5 +3,5 @@ use borrow.Author.Rules.{rules}
 use Rattle.embed.proofs.bounds_text.Goals as goal
 
 pub returns : goal.returns
-returns c = 
+returns c =
     record { within = c.words_text-t.ensures.0.within; text_is = c.words_text-t.ensures.0.bytes; rules = c.words_text-t.ensures.1.0; words_unchanged = c.words_text-t.ensures.1.1 }

@@ -11,12 +11,12 @@ pub returns-then-count-gt-MOST_PAIRS : goal.returns-then-count-gt-MOST_PAIRS
 returns-then-count-gt-MOST_PAIRS c = too_many _ _ (omega (arith, c.if-count-gt-MOST_PAIRS.true))
 
 pub returns-then-wrong-count : goal.returns-then-wrong-count
-returns-then-wrong-count c = 
+returns-then-wrong-count c =
     one_wrong _ _ c.if-count-lt1.false c.if-count-gt-MOST_PAIRS.false _ c.first_wrong-wrong.ensures c.if-wrong-count.true
 
 pub both_sides-requires : goal.both_sides-requires
 both_sides-requires c = (c.if-count-gt-MOST_PAIRS.false, λ i h. c.first_wrong-wrong.ensures.right i (omega (arith, h, c.if-wrong-count.false)))
 
 pub returns : goal.returns
-returns c = 
+returns c =
     all_right _ _ c.if-count-lt1.false c.if-count-gt-MOST_PAIRS.false _ c.first_wrong-wrong.ensures c.if-wrong-count.false _ c.both_sides.ensures.lower_value c.both_sides.ensures.upper_value

@@ -21,17 +21,17 @@ pub read_some-part-requires : goal.read_some-part-requires
 read_some-part-requires c = tt
 
 pub overflow_add-len : goal.overflow_add-len
-overflow_add-len c = 
+overflow_add-len c =
     let within : c.loop-len.len + c.read_Some.result.len ≤ length c.loop-len.buffer = inside c.loop-len.len c.read_Some.result.len c.loop-len.buffer c.read_Some.new.0 c.loop-len.invariant.0 c.buffer-1.given.0 c.read_Some.ensures.0 in
     record { fits = omega (arith, within, c.loop-len.invariant.1, c.well-formed.0.0) }
 
 pub loop-len-smaller : goal.loop-len-smaller
-loop-len-smaller c = 
+loop-len-smaller c =
     let within : c.loop-len.len + c.read_Some.result.len ≤ length c.loop-len.buffer = inside c.loop-len.len c.read_Some.result.len c.loop-len.buffer c.read_Some.new.0 c.loop-len.invariant.0 c.buffer-1.given.0 c.read_Some.ensures.0 in
     omega (arith, within, c.buffer-1.given.1, c.if-part-eq0.false)
 
 pub loop-len-preserved : goal.loop-len-preserved
-loop-len-preserved c = 
+loop-len-preserved c =
     let within : c.loop-len.len + c.read_Some.result.len ≤ length c.loop-len.buffer = inside c.loop-len.len c.read_Some.result.len c.loop-len.buffer c.read_Some.new.0 c.loop-len.invariant.0 c.buffer-1.given.0 c.read_Some.ensures.0 in
     (rw c.buffer-1.given.1 within, c.buffer-1.given.1 ∙ c.loop-len.invariant.1)
 

@@ -14,4 +14,3 @@ invariant-loop-len l = (l.len ≤ length l.buffer) × (length l.buffer ≡ lengt
 
 abbrev pub decreases-loop-len : goal.decreases-loop-len
 decreases-loop-len l = length l.buffer - l.len
-

@@ -6,4 +6,3 @@ invariant-loop-turns l = Unit {0}
 
 abbrev pub decreases-loop-turns : goal.decreases-loop-turns
 decreases-loop-turns l = l.turns
-

@@ -17,14 +17,14 @@ pub is_kept-requires : goal.is_kept-requires
 is_kept-requires c = lower_place
 
 pub lower_holds-kept-requires : goal.lower_holds-kept-requires
-lower_holds-kept-requires c = 
+lower_holds-kept-requires c =
     (c.requires.last_step, rw c.total_at-total.ensures (room_operand c.requires.table_gathered.0.lower), sized-≤ (lit≤ tt) c.requires.table_gathered.1)
 
 pub note_mark-requires : goal.note_mark-requires
 note_mark-requires c = (lower_place, c.requires.table_gathered.0.size)
 
 pub returns-then-is_kept : goal.returns-then-is_kept
-returns-then-is_kept c = 
+returns-then-is_kept c =
     let p = path_with (net_of c.args.words.now) c.args.path c.args.tip c.args.exit in noted_as (c.lower_holds-kept.ensures ∙ ap (λ f. lower_kept (net_of c.args.words.now) p && total_keeps f c.args.lower) c.total_at-total.ensures) c.note_mark.ensures
 
 pub returns-else-is_kept : goal.returns-else-is_kept

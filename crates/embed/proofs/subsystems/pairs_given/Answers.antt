@@ -24,8 +24,8 @@ pub loop-i-smaller : goal.loop-i-smaller
 loop-i-smaller c = omega (arith, c.loop-i-test.true)
 
 pub loop-i-preserved : goal.loop-i-preserved
-loop-i-preserved c = 
-    ( omega (arith, c.loop-i-test.true), filled_more _ _ _ _ _ (omega (arith, c.loop-i-test.true)) c.pair_given.ensures c.loop-i.invariant.1, )
+loop-i-preserved c =
+    (omega (arith, c.loop-i-test.true), filled_more _ _ _ _ _ (omega (arith, c.loop-i-test.true)) c.pair_given.ensures c.loop-i.invariant.1)
 
 pub returns : goal.returns
 returns c = filled_all _ _ _ _ (omega (arith, c.loop-i-test.false, c.loop-i.invariant.0)) c.loop-i.invariant.1

@@ -9,4 +9,3 @@ invariant-loop-i l = (l.i ≤ 16) × Filled l.digits l.powers l.pairs l.i
 
 abbrev pub decreases-loop-i : goal.decreases-loop-i
 decreases-loop-i l = 16 - l.i
-

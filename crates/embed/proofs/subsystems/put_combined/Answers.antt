@@ -6,7 +6,7 @@ use Rattle.embed.proofs.subsystems.put_combined.Goals as goal
 
 pub returns-in-Figures : goal.returns-in-Figures
 unfolding or_values
-returns-in-Figures c = 
+returns-in-Figures c =
     rw c.in-Figures.is (record { number_is = refl; numbers_are = c.put_pair.ensures.or_values_after; powers_are = c.put_pair.ensures.or_powers_after })
 
 pub returns-in-PairCountOutOfRange : goal.returns-in-PairCountOutOfRange

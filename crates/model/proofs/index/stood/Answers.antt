@@ -23,22 +23,22 @@ pub offset_bounds-words-at : goal.offset_bounds-words-at
 offset_bounds-words-at c = omega (arith, c.slot_place-at.ensures.1)
 
 pub slice_bounds-word_at-count : goal.slice_bounds-word_at-count
-slice_bounds-word_at-count c = 
+slice_bounds-word_at-count c =
     let inside : c.slot_place-at.result < length c.args.words.now = rw c.slot_place-at.ensures.0 (c.requires.inside c.loop-i.i c.loop-i-test.true) in
     omega (arith, inside)
 
 pub slice_bounds-word_at-start : goal.slice_bounds-word_at-start
-slice_bounds-word_at-start c = 
+slice_bounds-word_at-start c =
     let inside : c.slot_place-at.result < length c.args.words.now = rw c.slot_place-at.ensures.0 (c.requires.inside c.loop-i.i c.loop-i-test.true) in
     omega (arith, inside)
 
 pub returns-then-w-word_at : goal.returns-then-w-word_at
-returns-then-w-word_at c = 
+returns-then-w-word_at c =
     let word_is : c.word_at.result ≡ get_or c.args.words.now (slot_place c.args.index.now c.args.s c.loop-i.i) 0 = c.word_at.ensures ∙ part_word c.args.words.now _ ∙ ap (λ (k : ℕ). get_or c.args.words.now k 0) c.slot_place-at.ensures.0 in
     sym (sym c.loop-i.invariant.1 ∙ any_here _ _ _ c.loop-i.i c.loop-i-test.true (eq-eqb _ _ (c.if-w-word_at.true ∙ word_is)))
 
 pub loop-i-preserved : goal.loop-i-preserved
-loop-i-preserved c = 
+loop-i-preserved c =
     let word_is : c.word_at.result ≡ get_or c.args.words.now (slot_place c.args.index.now c.args.s c.loop-i.i) 0 = c.word_at.ensures ∙ part_word c.args.words.now _ ∙ ap (λ (k : ℕ). get_or c.args.words.now k 0) c.slot_place-at.ensures.0 in
     (omega arith, sym (any_later _ _ _ c.loop-i.i c.loop-i-test.true (ne_eqb _ _ (λ e. c.if-w-word_at.false (e ∙ sym word_is)))) ∙ c.loop-i.invariant.1)
 

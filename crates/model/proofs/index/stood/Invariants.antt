@@ -16,4 +16,3 @@ invariant-loop-i l = (l.i ≤ l.n) × (any (eqb l.w) (along (λ k. get_or l.word
 
 abbrev pub decreases-loop-i : goal.decreases-loop-i
 decreases-loop-i l = l.n - l.i
-

@@ -13,6 +13,7 @@ use Rattle.model.specs.Index.{exit_count, named_flag}
 use Rattle.model.specs.Internal.Parts.{leads_on_by}
 use Rattle.model.proofs.Stopping.{lowest_all, lowest_turn, lowest_next, lowest_none_left}
 use Rattle.model.proofs.named.lowest_leading_on.Goals as goal
+use Rattle.model.proofs.named.lowest_leading_on.Goals.{then-is_named, else-is_named}
 
 -- the test by the index, from its two halves
 leads : (index : List ℕ) (s : ℕ) → eqb (named_flag index s) 1 ≡ true → (exit_count index s ≡ 0 → ⊥) → leads_on_by index s ≡ true
@@ -31,15 +32,15 @@ pub exit_count-requires : goal.exit_count-requires
 exit_count-requires c = omega (arith, c.requires)
 
 pub returns-then-exit_count-ne0 : goal.returns-then-exit_count-ne0
-returns-then-exit_count-ne0 c = 
+returns-then-exit_count-ne0 c =
     let named = sym c.is_named.ensures ∙ c.if-is_named.true in let on = leads c.args.index.now c.loop-s.s named (λ e. c.if-exit_count-ne0.true (c.exit_count.ensures.0 ∙ e)) in sym (lowest_turn (leads_on_by c.args.index.now) c.args.states c.loop-s.s c.loop-s-test.true on) ∙ c.loop-s.invariant.1.1
 
 pub overflow_add-s : goal.overflow_add-s
 overflow_add-s c = omega (arith, c.requires)
 
 pub loop-s-preserved : goal.loop-s-preserved
-loop-s-preserved c = 
-    let passed : leads_on_by c.args.index.now c.loop-s.s ≡ false = ⊎_elim (λ w. ends c.args.index.now c.loop-s.s (sym w.1.ensures.0 ∙ w.2.left)) (λ w. rw (sym c.is_named.ensures ∙ w.left)) c.if-is_named.branch in
+loop-s-preserved c =
+    let passed : leads_on_by c.args.index.now c.loop-s.s ≡ false = elim c.if-is_named.branch [ then-is_named w ↦ ends c.args.index.now c.loop-s.s (sym w.1.ensures.0 ∙ w.2.left) | else-is_named w ↦ rw (sym c.is_named.ensures ∙ w.left) ] in
     let next = lowest_next (leads_on_by c.args.index.now) c.args.states c.loop-s.s c.loop-s-test.true passed in (omega arith, (omega arith, next ∙ c.loop-s.invariant.1.1))
 
 pub returns : goal.returns

@@ -18,4 +18,3 @@ invariant-loop-s l = (1 ≤ l.s) × ((l.s ≤ l.states + 1) × (lowest (leads_on
 
 abbrev pub decreases-loop-s : goal.decreases-loop-s
 decreases-loop-s l = l.states + 1 - l.s
-

@@ -18,4 +18,3 @@ invariant-loop-states l = (a : Accepted) → a.states ≡ l.states → IsOpened 
 
 abbrev pub decreases-loop-states : goal.decreases-loop-states
 decreases-loop-states l = length l.words - l.at
-

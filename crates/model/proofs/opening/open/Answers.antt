@@ -17,32 +17,32 @@ at_place : (ws : List ℕ) (i : ℕ) → quantity (get_or (take (length ws - i) 
 at_place ws i = ap quantity (ap (λ (l : List ℕ). get_or l 0 0) (part_from ws i) ∙ get_or-drop i ws 0 0)
 
 pub bounds-words-0 : goal.bounds-words-0
-bounds-words-0 c = 
+bounds-words-0 c =
     let first : FirstWords c.args.words.now = opening_passes c.args.words.now (sym c.verdict.ensures ∙ ap answer c.in-Fine.is) in
     omega (arith, first.inside)
 
 pub bounds-words-3 : goal.bounds-words-3
-bounds-words-3 c = 
+bounds-words-3 c =
     let first : FirstWords c.args.words.now = opening_passes c.args.words.now (sym c.verdict.ensures ∙ ap answer c.in-Fine.is) in
     omega (arith, first.inside)
 
 pub slice_bounds-quantity_at-count : goal.slice_bounds-quantity_at-count
-slice_bounds-quantity_at-count c = 
+slice_bounds-quantity_at-count c =
     let first : FirstWords c.args.words.now = opening_passes c.args.words.now (sym c.verdict.ensures ∙ ap answer c.in-Fine.is) in
     omega (arith, first.inside)
 
 pub slice_bounds-quantity_at-start : goal.slice_bounds-quantity_at-start
-slice_bounds-quantity_at-start c = 
+slice_bounds-quantity_at-start c =
     let first : FirstWords c.args.words.now = opening_passes c.args.words.now (sym c.verdict.ensures ∙ ap answer c.in-Fine.is) in
     omega (arith, first.inside)
 
 pub slice_bounds-quantity_at-count-in-Fine : goal.slice_bounds-quantity_at-count-in-Fine
-slice_bounds-quantity_at-count-in-Fine c = 
+slice_bounds-quantity_at-count-in-Fine c =
     let first : FirstWords c.args.words.now = opening_passes c.args.words.now (sym c.verdict.ensures ∙ ap answer c.in-Fine.is) in
     omega (arith, first.inside)
 
 pub slice_bounds-quantity_at-start-in-Fine : goal.slice_bounds-quantity_at-start-in-Fine
-slice_bounds-quantity_at-start-in-Fine c = 
+slice_bounds-quantity_at-start-in-Fine c =
     let first : FirstWords c.args.words.now = opening_passes c.args.words.now (sym c.verdict.ensures ∙ ap answer c.in-Fine.is) in
     omega (arith, first.inside)
 
@@ -50,6 +50,6 @@ pub returns-in-Refused : goal.returns-in-Refused
 returns-in-Refused c = opening_stops _ _ _ (sym c.verdict.ensures ∙ ap answer c.in-Refused.is)
 
 pub returns-in-Fine : goal.returns-in-Fine
-returns-in-Fine c = 
+returns-in-Fine c =
     let first : FirstWords c.args.words.now = opening_passes c.args.words.now (sym c.verdict.ensures ∙ ap answer c.in-Fine.is) in
-    let w = first in record { model = first_model c.args.words.now; fields = λ i. record { states = c.states.ensures.value i; start = c.start.ensures.value i; step_limit = c.step_limit.ensures i; entry_limit = c.entry_limit.ensures i; time = (c.quantity_at-time.ensures ∙ at_place c.args.words.now 1) i; prune = (c.quantity_at-prune.ensures ∙ at_place c.args.words.now 2) i; }; none_named = refl; empty = refl; reads = w.reads; inside = w.inside; states_high = w.states_high; start_high = w.start_high; }
+    let w = first in record { model = first_model c.args.words.now; fields = λ i. record { states = c.states.ensures.value i; start = c.start.ensures.value i; step_limit = c.step_limit.ensures i; entry_limit = c.entry_limit.ensures i; time = (c.quantity_at-time.ensures ∙ at_place c.args.words.now 1) i; prune = (c.quantity_at-prune.ensures ∙ at_place c.args.words.now 2) i }; none_named = refl; empty = refl; reads = w.reads; inside = w.inside; states_high = w.states_high; start_high = w.start_high }

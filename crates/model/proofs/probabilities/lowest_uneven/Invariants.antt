@@ -13,4 +13,3 @@ invariant-loop-s l = (1 ≤ l.s) × ((l.s ≤ l.states + 1) × ((net : Net) → 
 
 abbrev pub decreases-loop-s : goal.decreases-loop-s
 decreases-loop-s l = l.states + 1 - l.s
-

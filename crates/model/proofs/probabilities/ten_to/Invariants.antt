@@ -9,4 +9,3 @@ invariant-loop-i l = (l.i ≤ l.n) × (l.p ≡ 10 ^ l.i)
 
 abbrev pub decreases-loop-i : goal.decreases-loop-i
 decreases-loop-i l = l.n - l.i
-

@@ -16,13 +16,13 @@ pub overflow_add-known : goal.overflow_add-known
 overflow_add-known c = omega (arith, c.loop-behind.invariant.few, c.loop-behind.invariant.far.number)
 
 pub loop-behind-smaller : goal.loop-behind-smaller
-loop-behind-smaller c = 
-    let stepped : (c.loop-behind.at < c.in-To.behind) × Begun c.args.a c.args.words.now c.in-To.behind (c.loop-behind.known + 1) c.next.new.1.1.1.1.0 = rw c.in-To.is at c.next.ensures in
+loop-behind-smaller c =
+    let stepped : (c.loop-behind.at < c.in-To.behind) × Begun c.args.a c.args.words.now c.in-To.behind (c.loop-behind.known + 1) c.next.new.index = rw c.in-To.is at c.next.ensures in
     let h = stepped in omega (arith, h.0, h.1.far.inside)
 
 pub loop-behind-preserved : goal.loop-behind-preserved
-loop-behind-preserved c = 
-    let stepped : (c.loop-behind.at < c.in-To.behind) × Begun c.args.a c.args.words.now c.in-To.behind (c.loop-behind.known + 1) c.next.new.1.1.1.1.0 = rw c.in-To.is at c.next.ensures in
+loop-behind-preserved c =
+    let stepped : (c.loop-behind.at < c.in-To.behind) × Begun c.args.a c.args.words.now c.in-To.behind (c.loop-behind.known + 1) c.next.new.index = rw c.in-To.is at c.next.ensures in
     stepped.1
 
 pub returns-in-End : goal.returns-in-End

@@ -10,4 +10,3 @@ invariant-loop-behind l = Begun l.a l.words l.at l.known l.index
 
 abbrev pub decreases-loop-behind : goal.decreases-loop-behind
 decreases-loop-behind l = length l.words - l.at
-

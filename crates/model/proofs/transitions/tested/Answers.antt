@@ -17,12 +17,12 @@ use Rattle.model.proofs.Turn.{fields_stop, from_small, room_stop, tested_is}
 use Rattle.model.proofs.transitions.tested.Goals as goal
 
 pub returns-in-Refused : goal.returns-in-Refused
-returns-in-Refused c = 
+returns-in-Refused c =
     let word_is : c.word_at-w.result ≡ get_or c.args.words.now c.args.at 0 = c.word_at-w.ensures ∙ part_word c.args.words.now c.args.at in
     fields_stop _ _ _ _ _ c.requires _ _ (rw word_is at (sym c.transition.ensures ∙ ap answer c.in-Refused.is))
 
 pub exit_count-n-requires : goal.exit_count-n-requires
-exit_count-n-requires c = 
+exit_count-n-requires c =
     let word_small : get_or c.args.words.now c.args.at 0 < 4294967296 = omega (arith, c.shared_slice_known-1.given c.args.at) in
     let word_is : c.word_at-w.result ≡ get_or c.args.words.now c.args.at 0 = c.word_at-w.ensures ∙ part_word c.args.words.now c.args.at in
     let fields_fine : first_fault (field_faults c.args.a.states (get_or c.args.words.now c.args.at 0)) c.args.at ≡ granted tt = rw word_is at (sym c.transition.ensures ∙ ap answer c.in_default.is) in
@@ -31,7 +31,7 @@ exit_count-n-requires c =
     omega (arith, from_is, from_low)
 
 pub room-requires : goal.room-requires
-room-requires c = 
+room-requires c =
     let word_is : c.word_at-w.result ≡ get_or c.args.words.now c.args.at 0 = c.word_at-w.ensures ∙ part_word c.args.words.now c.args.at in
     let from_is : c.from.result ≡ from_field (get_or c.args.words.now c.args.at 0) = c.from.ensures.value ∙ ap from_field word_is in
     let count_is : c.exit_count-n.result ≡ exit_count c.args.index.now (from_field (get_or c.args.words.now c.args.at 0)) = c.exit_count-n.ensures.0 ∙ ap (exit_count c.args.index.now) from_is in
@@ -41,7 +41,7 @@ room-requires c =
     rw (word_is, count_is) (leads _ _ _ _ c.requires.begun _ from_low)
 
 pub returns-in-Refused-room : goal.returns-in-Refused-room
-returns-in-Refused-room c = 
+returns-in-Refused-room c =
     let word_is : c.word_at-w.result ≡ get_or c.args.words.now c.args.at 0 = c.word_at-w.ensures ∙ part_word c.args.words.now c.args.at in
     let from_is : c.from.result ≡ from_field (get_or c.args.words.now c.args.at 0) = c.from.ensures.value ∙ ap from_field word_is in
     let count_is : c.exit_count-n.result ≡ exit_count c.args.index.now (from_field (get_or c.args.words.now c.args.at 0)) = c.exit_count-n.ensures.0 ∙ ap (exit_count c.args.index.now) from_is in
@@ -50,7 +50,7 @@ returns-in-Refused-room c =
     room_stop _ _ _ _ _ c.requires word_small fields_fine _ _ (rw (count_is, word_is) at (sym c.room.ensures ∙ ap answer c.in-Refused-room.is))
 
 pub returns : goal.returns
-returns c = 
+returns c =
     let word_is : c.word_at-w.result ≡ get_or c.args.words.now c.args.at 0 = c.word_at-w.ensures ∙ part_word c.args.words.now c.args.at in
     let from_is : c.from.result ≡ from_field (get_or c.args.words.now c.args.at 0) = c.from.ensures.value ∙ ap from_field word_is in
     let count_is : c.exit_count-n.result ≡ exit_count c.args.index.now (from_field (get_or c.args.words.now c.args.at 0)) = c.exit_count-n.ensures.0 ∙ ap (exit_count c.args.index.now) from_is in

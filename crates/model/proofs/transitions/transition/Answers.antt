@@ -13,24 +13,24 @@ pub returns-in-Refused : goal.returns-in-Refused
 returns-in-Refused c = rw c.in-Refused.is at c.tested.ensures
 
 pub enter-requires : goal.enter-requires
-enter-requires c = 
+enter-requires c =
     let word_is : c.word_at-w.result ≡ get_or c.args.words.now c.args.at 0 = c.word_at-w.ensures ∙ part_word c.args.words.now c.args.at in
     let from_is : c.from.result ≡ from_field (get_or c.args.words.now c.args.at 0) = c.from.ensures.value ∙ ap from_field word_is in
     let passes : Passes c.args.a c.args.words.now c.args.at c.args.known c.args.index.now = rw c.in_default.is at c.tested.ensures in
     let p = passes in rw from_is (p.state, p.few, omega (arith, c.requires.short, c.requires.inside), p.exits_few)
 
 pub returns-then-is_fast : goal.returns-then-is_fast
-returns-then-is_fast c = 
+returns-then-is_fast c =
     let word_is : c.word_at-w.result ≡ get_or c.args.words.now c.args.at 0 = c.word_at-w.ensures ∙ part_word c.args.words.now c.args.at in
     let from_is : c.from.result ≡ from_field (get_or c.args.words.now c.args.at 0) = c.from.ensures.value ∙ ap from_field word_is in
     let passes : Passes c.args.a c.args.words.now c.args.at c.args.known c.args.index.now = rw c.in_default.is at c.tested.ensures in
-    let entered : Begun c.args.a c.args.words.now (c.args.at + words_taken c.word_at-w.result) (c.args.known + 1) c.enter.new.0 = rw (c.enter.ensures, from_is, word_is) passes.next in
+    let entered : Begun c.args.a c.args.words.now (c.args.at + words_taken c.word_at-w.result) (c.args.known + 1) c.enter.new.index = rw (c.enter.ensures, from_is, word_is) passes.next in
     (omega arith, rw (sym c.is_fast.ensures ∙ c.if-is_fast.true, words_taken) at entered)
 
 pub returns : goal.returns
-returns c = 
+returns c =
     let word_is : c.word_at-w.result ≡ get_or c.args.words.now c.args.at 0 = c.word_at-w.ensures ∙ part_word c.args.words.now c.args.at in
     let from_is : c.from.result ≡ from_field (get_or c.args.words.now c.args.at 0) = c.from.ensures.value ∙ ap from_field word_is in
     let passes : Passes c.args.a c.args.words.now c.args.at c.args.known c.args.index.now = rw c.in_default.is at c.tested.ensures in
-    let entered : Begun c.args.a c.args.words.now (c.args.at + words_taken c.word_at-w.result) (c.args.known + 1) c.enter.new.0 = rw (c.enter.ensures, from_is, word_is) passes.next in
+    let entered : Begun c.args.a c.args.words.now (c.args.at + words_taken c.word_at-w.result) (c.args.known + 1) c.enter.new.index = rw (c.enter.ensures, from_is, word_is) passes.next in
     (omega arith, rw (sym c.is_fast.ensures ∙ c.if-is_fast.false, words_taken) at entered)

@@ -17,4 +17,3 @@ invariant-loop-i l = (l.i ≤ l.count) × Combining l.pairs l.i l.lower l.upper
 
 abbrev pub decreases-loop-i : goal.decreases-loop-i
 decreases-loop-i l = l.count - l.i
-

@@ -19,8 +19,8 @@ pub bounds-pairs-i : goal.bounds-pairs-i
 bounds-pairs-i c = omega (arith, c.loop-i-test.true, c.requires)
 
 pub returns-then-not-is_pair : goal.returns-then-not-is_pair
-returns-then-not-is_pair c = 
-    wrong_found _ _ _ (search rules) c.requires c.loop-i-test.true c.loop-i.invariant.1 (sym c.is_pair.ensures ∙ not-true _ c.if-not-is_pair.true)
+returns-then-not-is_pair c =
+    wrong_found _ _ _ (search rules) c.requires c.loop-i-test.true c.loop-i.invariant.1 (sym c.is_pair.ensures ∙ c.if-not-is_pair.true)
 
 pub overflow_add-i : goal.overflow_add-i
 overflow_add-i c = omega (arith, c.loop-i-test.true, c.requires)
@@ -29,9 +29,9 @@ pub loop-i-smaller : goal.loop-i-smaller
 loop-i-smaller c = omega (arith, c.loop-i-test.true)
 
 pub loop-i-preserved : goal.loop-i-preserved
-loop-i-preserved c = 
-    ( omega (arith, c.loop-i-test.true), right_more _ _ _ c.loop-i-test.true c.loop-i.invariant.1 (sym c.is_pair.ensures ∙ not-false _ c.if-not-is_pair.false), )
+loop-i-preserved c =
+    (omega (arith, c.loop-i-test.true), right_more _ _ _ c.loop-i-test.true c.loop-i.invariant.1 (sym c.is_pair.ensures ∙ c.if-not-is_pair.false))
 
 pub returns : goal.returns
-returns c = 
+returns c =
     let e : c.loop-i.i ≡ c.args.count = omega (arith, c.loop-i-test.false, c.loop-i.invariant.0) in none_wrong _ _ (search rules) c.requires (rw e at c.loop-i.invariant.1)

@@ -13,4 +13,3 @@ invariant-loop-i l = (l.i ≤ l.count) × Right (take l.count l.pairs) l.i
 
 abbrev pub decreases-loop-i : goal.decreases-loop-i
 decreases-loop-i l = l.count - l.i
-

@@ -20,14 +20,14 @@ use Rattle.path.proofs.DeathCache.{serves_kept}
 use Rattle.path.proofs.deaths.death.Goals as goal
 
 pub lower_of-lower-requires : goal.lower_of-lower-requires
-lower_of-lower-requires c = 
+lower_of-lower-requires c =
     let share_is : c.share.result ≡ share_in c.args.table.now c.args.exit.index = c.share.ensures ∙ ap (share_in c.args.table.now) c.wide-j.ensures.0 in
     let factor_is : c.factor.result ≡ factor_in c.args.table.now c.args.exit.index = c.factor.ensures ∙ ap (factor_in c.args.table.now) c.wide-j.ensures.0 in
     let last : LastStep (lent c.args.words.now c.args.index.now c.args.table.now) c.args.time c.args.path c.args.tip c.args.exit = c.requires.last_step.0 in
-    let h = last in let d = divisor _ (omega arith) (omega (arith, ones_high h)) c.requires.last_step.1 in ( c.kept_or_new_stem-stem.ensures.stem_sized, sized-≤ (lit≤ tt) (share_held_sized h.filled h.index share_is), sized-≤ (lit≤ tt) (factor_held_sized h.filled h.index factor_is), d.0, d.1, )
+    let h = last in let d = divisor _ (omega arith) (omega (arith, ones_high h)) c.requires.last_step.1 in (c.kept_or_new_stem-stem.ensures.stem_sized, sized-≤ (lit≤ tt) (share_held_sized h.filled h.index share_is), sized-≤ (lit≤ tt) (factor_held_sized h.filled h.index factor_is), d.0, d.1)
 
 pub returns-then-is_slow : goal.returns-then-is_slow
-returns-then-is_slow c = 
+returns-then-is_slow c =
     let share_is : c.share.result ≡ share_in c.args.table.now c.args.exit.index = c.share.ensures ∙ ap (share_in c.args.table.now) c.wide-j.ensures.0 in
     let factor_is : c.factor.result ≡ factor_in c.args.table.now c.args.exit.index = c.factor.ensures ∙ ap (factor_in c.args.table.now) c.wide-j.ensures.0 in
     let last : LastStep (lent c.args.words.now c.args.index.now c.args.table.now) c.args.time c.args.path c.args.tip c.args.exit = c.requires.last_step.0 in
@@ -35,7 +35,7 @@ returns-then-is_slow c =
     let h = last in let slow_step = ap is_slow (sym h.class_is) ∙ sym c.is_slow.ensures ∙ c.if-is_slow.true in record { lower_value = lower_is; cached_2 = record { stem_is = λ _. serves_kept _ _ slow_step h.leaves c.kept_or_new_stem-stem.ensures.0; sized = c.kept_or_new_stem-stem.ensures.1 } }
 
 pub returns : goal.returns
-returns c = 
+returns c =
     let share_is : c.share.result ≡ share_in c.args.table.now c.args.exit.index = c.share.ensures ∙ ap (share_in c.args.table.now) c.wide-j.ensures.0 in
     let factor_is : c.factor.result ≡ factor_in c.args.table.now c.args.exit.index = c.factor.ensures ∙ ap (factor_in c.args.table.now) c.wide-j.ensures.0 in
     let last : LastStep (lent c.args.words.now c.args.index.now c.args.table.now) c.args.time c.args.path c.args.tip c.args.exit = c.requires.last_step.0 in

@@ -20,43 +20,43 @@ pub returns-then-n-ge1000000 : goal.returns-then-n-ge1000000
 returns-then-n-ge1000000 c = record { stem_at = stem_full c.filled_stem.ensures.0 c.if-n-ge1000000.true; stem_sized = c.filled_stem.ensures.1 }
 
 pub times_down-requires : goal.times_down-requires
-times_down-requires c = 
+times_down-requires c =
     let rest_sized : Sized 9 20 c.of_whole-rest.result = rw c.of_whole-rest.ensures (count_sized _ (le_trans {m = 1000000} (omega arith) (lit≤ tt))) in
     let time_sized : Sized 9 40 c.args.time = rw c.requires.time_value.0 (mission_time_sized c.requires.filled.0.indexes.valid) in
     (sized-≤ (lit≤ tt) time_sized, sized-≤ (lit≤ tt) rest_sized)
 
 pub times_ten-t-requires : goal.times_ten-t-requires
-times_ten-t-requires c = 
+times_ten-t-requires c =
     let rest_sized : Sized 9 20 c.of_whole-rest.result = rw c.of_whole-rest.ensures (count_sized _ (le_trans {m = 1000000} (omega arith) (lit≤ tt))) in
     let time_sized : Sized 9 40 c.args.time = rw c.requires.time_value.0 (mission_time_sized c.requires.filled.0.indexes.valid) in
     (rw c.times_down.ensures (sized-≤ (lit≤ tt) (times_down_sized time_sized rest_sized)), lit≤ tt)
 
 pub times_up-requires : goal.times_up-requires
-times_up-requires c = 
+times_up-requires c =
     let rest_sized : Sized 9 20 c.of_whole-rest.result = rw c.of_whole-rest.ensures (count_sized _ (le_trans {m = 1000000} (omega arith) (lit≤ tt))) in
     let time_sized : Sized 9 40 c.args.time = rw c.requires.time_value.0 (mission_time_sized c.requires.filled.0.indexes.valid) in
     (sized-≤ (lit≤ tt) time_sized, sized-≤ (lit≤ tt) rest_sized)
 
 pub times_ten-above-requires : goal.times_ten-above-requires
-times_ten-above-requires c = 
+times_ten-above-requires c =
     let rest_sized : Sized 9 20 c.of_whole-rest.result = rw c.of_whole-rest.ensures (count_sized _ (le_trans {m = 1000000} (omega arith) (lit≤ tt))) in
     let time_sized : Sized 9 40 c.args.time = rw c.requires.time_value.0 (mission_time_sized c.requires.filled.0.indexes.valid) in
     (rw c.times_up.ensures (sized-≤ (lit≤ tt) (times_up_sized time_sized rest_sized)), lit≤ tt)
 
 pub product-p-requires : goal.product-p-requires
-product-p-requires c = 
+product-p-requires c =
     let down_is : c.times_ten-t.result ≡ times_ten (times_down (mission_time (net_of c.args.words.now)) (of_whole (1000000 - c.args.n))) (negsuc 5) = scaled times_down (negsuc 5) c.times_ten-t.ensures c.times_down.ensures c.requires.time_value.0 c.of_whole-rest.ensures in
     let down_sized : Sized 9 100 c.times_ten-t.result = let inside : c.args.n ≤ 1000000 = omega (arith, c.if-n-ge1000000.false) in rw (down_is ∙ sym (remaining_time_down c.requires.filled.0.indexes.valid _ inside)) (time_down_sized c.requires.filled.0.indexes.valid _ inside) in
     (c.requires.0.0, c.requires.0.1, down_sized)
 
 pub last_factor-last-requires : goal.last_factor-last-requires
-last_factor-last-requires c = 
+last_factor-last-requires c =
     let up_is : c.times_ten-above.result ≡ times_ten (times_up (mission_time (net_of c.args.words.now)) (of_whole (1000000 - c.args.n))) (negsuc 5) = scaled times_up (negsuc 5) c.times_ten-above.ensures c.times_up.ensures c.requires.time_value.0 c.of_whole-rest.ensures in
     let up_sized : Sized 9 100 c.times_ten-above.result = let inside : c.args.n ≤ 1000000 = omega (arith, c.if-n-ge1000000.false) in rw (up_is ∙ sym (remaining_time_up c.requires.filled.0.indexes.valid _ inside)) (time_up_sized c.requires.filled.0.indexes.valid _ inside) in
     (up_sized, sized-≤ (lit≤ tt) c.requires.1.1, c.requires.1.2)
 
 pub returns : goal.returns
-returns c = 
+returns c =
     let down_is : c.times_ten-t.result ≡ times_ten (times_down (mission_time (net_of c.args.words.now)) (of_whole (1000000 - c.args.n))) (negsuc 5) = scaled times_down (negsuc 5) c.times_ten-t.ensures c.times_down.ensures c.requires.time_value.0 c.of_whole-rest.ensures in
     let up_is : c.times_ten-above.result ≡ times_ten (times_up (mission_time (net_of c.args.words.now)) (of_whole (1000000 - c.args.n))) (negsuc 5) = scaled times_up (negsuc 5) c.times_ten-above.ensures c.times_up.ensures c.requires.time_value.0 c.of_whole-rest.ensures in
     let inside : c.args.n < 1000000 = omega (arith, c.if-n-ge1000000.false) in let stem = stem_rest c.requires.0.0.indexes.valid inside refl down_is up_is c.product-p.ensures c.last_factor-last.ensures in record { stem_at = stem; stem_sized = stem_sized c.requires.0.0.indexes.valid inside c.requires.0.1 c.requires.1.1 c.requires.1.2 refl stem }

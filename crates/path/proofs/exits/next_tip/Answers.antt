@@ -5,7 +5,7 @@ use Rattle.path.proofs.ExitTips.{divisor, tip_made}
 use Rattle.path.proofs.exits.next_tip.Goals as goal
 
 pub further-next-requires : goal.further-next-requires
-further-next-requires c = 
+further-next-requires c =
     let d = divisor _ (omega arith) (omega (arith, c.requires.0.4)) c.requires.1 in (c.requires.0.0, c.requires.0.1, c.requires.0.2, c.requires.0.3, d.0, d.1)
 
 pub returns : goal.returns

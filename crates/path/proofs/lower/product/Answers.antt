@@ -20,29 +20,30 @@ use Rattle.path.specs.Internal.Paths.{path_of, Known, step_class}
 use Rattle.path.proofs.PathSums.{path_none, path_more, known_less, Multiplied, multiplied_start, multiplied_one, multiplied_other, multiplied_sized, ones_high}
 use Rattle.path.proofs.PathSteps.{step_small, share_held, share_held_sized, factor_held, factor_held_sized}
 use Rattle.path.proofs.lower.product.Goals as goal
+use Rattle.path.proofs.lower.product.Goals.{then-is_class1, else-is_class1}
 
 pub loop-i-init : goal.loop-i-init
 loop-i-init c = (omega arith, rw (path_none, c.of_whole-p.ensures) (multiplied_start _ _))
 
 pub offset_bounds-path-i : goal.offset_bounds-path-i
-offset_bounds-path-i c = 
+offset_bounds-path-i c =
     let known : Known (net_of c.args.words.now) c.args.path c.args.len = c.requires.1 in
     omega (arith, known.short)
 
 pub bounds-path-i : goal.bounds-path-i
-bounds-path-i c = 
+bounds-path-i c =
     let known : Known (net_of c.args.words.now) c.args.path c.args.len = c.requires.1 in
     omega (arith, known.short)
 
 pub left_by-step-requires : goal.left_by-step-requires
-left_by-step-requires c = 
+left_by-step-requires c =
     let filled : Filled (lent c.args.words.now c.args.index.now c.args.table.now) = c.requires.0 in
     let known : Known (net_of c.args.words.now) c.args.path c.args.len = c.requires.1 in
     let inside : c.wide-j.result < length (net_of c.args.words.now).table = rw c.wide-j.ensures.0 (known.inside _ c.loop-i-test.true) in
     (filled, inside)
 
 pub overflow_add-k : goal.overflow_add-k
-overflow_add-k c = 
+overflow_add-k c =
     let filled : Filled (lent c.args.words.now c.args.index.now c.args.table.now) = c.requires.0 in
     let known : Known (net_of c.args.words.now) c.args.path c.args.len = c.requires.1 in
     let so_far_known : Known (net_of c.args.words.now) c.args.path c.loop-i.i = known_less _ c.loop-i.invariant.0 known in
@@ -50,14 +51,14 @@ overflow_add-k c =
     omega (arith, more_ones)
 
 pub share-requires : goal.share-requires
-share-requires c = 
+share-requires c =
     let filled : Filled (lent c.args.words.now c.args.index.now c.args.table.now) = c.requires.0 in
     let known : Known (net_of c.args.words.now) c.args.path c.args.len = c.requires.1 in
     let inside : c.wide-j.result < length (net_of c.args.words.now).table = rw c.wide-j.ensures.0 (known.inside _ c.loop-i-test.true) in
     step_small filled inside
 
 pub times_down-requires : goal.times_down-requires
-times_down-requires c = 
+times_down-requires c =
     let filled : Filled (lent c.args.words.now c.args.index.now c.args.table.now) = c.requires.0 in
     let known : Known (net_of c.args.words.now) c.args.path c.args.len = c.requires.1 in
     let inside : c.wide-j.result < length (net_of c.args.words.now).table = rw c.wide-j.ensures.0 (known.inside _ c.loop-i-test.true) in
@@ -67,7 +68,7 @@ times_down-requires c =
     (sized-≤ (lit≤ tt) so_far_sized, sized-≤ (lit≤ tt) share_sized)
 
 pub times_down-requires-then-is_class1 : goal.times_down-requires-then-is_class1
-times_down-requires-then-is_class1 c = 
+times_down-requires-then-is_class1 c =
     let filled : Filled (lent c.args.words.now c.args.index.now c.args.table.now) = c.requires.0 in
     let known : Known (net_of c.args.words.now) c.args.path c.args.len = c.requires.1 in
     let inside : c.wide-j.result < length (net_of c.args.words.now).table = rw c.wide-j.ensures.0 (known.inside _ c.loop-i-test.true) in
@@ -77,7 +78,7 @@ times_down-requires-then-is_class1 c =
     (rw c.times_down.ensures (sized-≤ (lit≤ tt) (times_down_sized so_far_sized share_sized)), sized-≤ (lit≤ tt) c.requires.2)
 
 pub divided_down-p-requires : goal.divided_down-p-requires
-divided_down-p-requires c = 
+divided_down-p-requires c =
     let filled : Filled (lent c.args.words.now c.args.index.now c.args.table.now) = c.requires.0 in
     let known : Known (net_of c.args.words.now) c.args.path c.args.len = c.requires.1 in
     let inside : c.wide-j.result < length (net_of c.args.words.now).table = rw c.wide-j.ensures.0 (known.inside _ c.loop-i-test.true) in
@@ -85,17 +86,17 @@ divided_down-p-requires c =
     let so_far_known : Known (net_of c.args.words.now) c.args.path c.loop-i.i = known_less _ c.loop-i.invariant.0 known in
     let so_far_sized : Sized 9 30000 c.loop-i.p = multiplied_sized filled.indexes.valid so_far_known c.requires.2 c.loop-i.invariant.1 in
     let more_ones : c.loop-i.k < 24 = omega (arith, ones_high filled.indexes.valid so_far_known c.loop-i.invariant.1, known.short, c.loop-i-test.true) in
-    ( rw (c.times_down-then-is_class1.ensures, c.times_down.ensures) (sized-≤ (lit≤ tt) (times_down_sized (times_down_sized so_far_sized share_sized) c.requires.2)), rw c.of_whole.ensures (sized-≤ (lit≤ tt) (count_sized _ (le_trans {m = 24} (omega (arith, more_ones)) (lit≤ tt)))), rw c.of_whole.ensures (of_whole_above _ (omega arith)), )
+    (rw (c.times_down-then-is_class1.ensures, c.times_down.ensures) (sized-≤ (lit≤ tt) (times_down_sized (times_down_sized so_far_sized share_sized) c.requires.2)), rw c.of_whole.ensures (sized-≤ (lit≤ tt) (count_sized _ (le_trans {m = 24} (omega (arith, more_ones)) (lit≤ tt)))), rw c.of_whole.ensures (of_whole_above _ (omega arith)))
 
 pub factor-requires : goal.factor-requires
-factor-requires c = 
+factor-requires c =
     let filled : Filled (lent c.args.words.now c.args.index.now c.args.table.now) = c.requires.0 in
     let known : Known (net_of c.args.words.now) c.args.path c.args.len = c.requires.1 in
     let inside : c.wide-j.result < length (net_of c.args.words.now).table = rw c.wide-j.ensures.0 (known.inside _ c.loop-i-test.true) in
     step_small filled inside
 
 pub times_down-p-requires : goal.times_down-p-requires
-times_down-p-requires c = 
+times_down-p-requires c =
     let filled : Filled (lent c.args.words.now c.args.index.now c.args.table.now) = c.requires.0 in
     let known : Known (net_of c.args.words.now) c.args.path c.args.len = c.requires.1 in
     let so_far_known : Known (net_of c.args.words.now) c.args.path c.loop-i.i = known_less _ c.loop-i.invariant.0 known in
@@ -104,7 +105,7 @@ times_down-p-requires c =
     (sized-≤ (lit≤ tt) so_far_sized, sized-≤ (lit≤ tt) (factor_held_sized filled inside c.factor.ensures))
 
 pub overflow_add-i : goal.overflow_add-i
-overflow_add-i c = 
+overflow_add-i c =
     let known : Known (net_of c.args.words.now) c.args.path c.args.len = c.requires.1 in
     omega (arith, known.short, c.loop-i-test.true)
 
@@ -112,13 +113,13 @@ pub loop-i-smaller : goal.loop-i-smaller
 loop-i-smaller c = omega (arith, c.loop-i-test.true)
 
 pub loop-i-preserved : goal.loop-i-preserved
-loop-i-preserved c = 
+loop-i-preserved c =
     let tested : c.is_class1.result ≡ is_class1 (step_class (net_of c.args.words.now) c.wide-j.result) = rw c.left_by-step.ensures.class_value at c.is_class1.ensures in
     let filled : Filled (lent c.args.words.now c.args.index.now c.args.table.now) = c.requires.0 in
     let known : Known (net_of c.args.words.now) c.args.path c.args.len = c.requires.1 in
     let inside : c.wide-j.result < length (net_of c.args.words.now).table = rw c.wide-j.ensures.0 (known.inside _ c.loop-i-test.true) in
-    ( omega (arith, c.loop-i-test.true), rw (path_more (net_of c.args.words.now) c.args.path c.loop-i.i c.wide-j.ensures.0) (⊎_elim (λ w. rw (w.6, w.7, w.5.ensures, w.4.ensures, w.3.ensures, w.2.ensures) (multiplied_one _ c.loop-i.invariant.1 (one_true _ (sym tested ∙ w.0.taken)) (share_held filled inside w.1.ensures))) (λ w. rw (w.3, w.4, w.2.ensures) (multiplied_other _ c.loop-i.invariant.1 (one_false _ (sym tested ∙ w.0.left)) (factor_held filled inside w.1.ensures))) c.if-is_class1.branch), )
+    (omega (arith, c.loop-i-test.true), rw (path_more (net_of c.args.words.now) c.args.path c.loop-i.i c.wide-j.ensures.0) (elim c.if-is_class1.branch [ then-is_class1 w ↦ rw (w.6, w.7, w.5.ensures, w.4.ensures, w.3.ensures, w.2.ensures) (multiplied_one _ c.loop-i.invariant.1 (one_true _ (sym tested ∙ w.if-is_class1.true)) (share_held filled inside w.1.ensures)) | else-is_class1 w ↦ rw (w.3, w.4, w.2.ensures) (multiplied_other _ c.loop-i.invariant.1 (one_false _ (sym tested ∙ w.if-is_class1.false)) (factor_held filled inside w.1.ensures)) ]))
 
 pub returns : goal.returns
-returns c = 
+returns c =
     let e : c.loop-i.i ≡ c.args.len = omega (arith, c.loop-i.invariant.0, c.loop-i-test.false) in (rw e at c.loop-i.invariant.1).product_is

@@ -25,4 +25,3 @@ invariant-loop-i l = (l.i ≤ l.len) × Multiplied (net_of l.words) l.t (path_of
 
 abbrev pub decreases-loop-i : goal.decreases-loop-i
 decreases-loop-i l = l.len - l.i
-

@@ -21,4 +21,3 @@ invariant-loop-i l = (l.i ≤ l.len) × SpentOn (net_of l.words) (path_of (net_o
 
 abbrev pub decreases-loop-i : goal.decreases-loop-i
 decreases-loop-i l = l.len - l.i
-

@@ -19,7 +19,7 @@ pub returns-then-spent-ge1000000 : goal.returns-then-spent-ge1000000
 returns-then-spent-ge1000000 c = lower_full _ _ c.spent_telling-spent.ensures c.if-spent-ge1000000.true
 
 pub times_down_telling-below-requires : goal.times_down_telling-below-requires
-times_down_telling-below-requires c = 
+times_down_telling-below-requires c =
     let valid : Valid (described c.args.words.now) = c.requires.filled.0.indexes.valid in
     let known : Known (net_of c.args.words.now) c.args.path c.args.len = c.requires.filled.1 in
     let inside : c.spent_telling-spent.result.grains < 1000000 = c.if-spent-ge1000000.false in
@@ -28,7 +28,7 @@ times_down_telling-below-requires c =
     (sized-≤ (lit≤ tt) time_fine, sized-≤ (lit≤ tt) left_fine)
 
 pub times_up-requires : goal.times_up-requires
-times_up-requires c = 
+times_up-requires c =
     let valid : Valid (described c.args.words.now) = c.requires.filled.0.indexes.valid in
     let known : Known (net_of c.args.words.now) c.args.path c.args.len = c.requires.filled.1 in
     let inside : c.spent_telling-spent.result.grains < 1000000 = c.if-spent-ge1000000.false in
@@ -37,7 +37,7 @@ times_up-requires c =
     (sized-≤ (lit≤ tt) time_fine, sized-≤ (lit≤ tt) left_fine)
 
 pub times_ten-above-requires : goal.times_ten-above-requires
-times_ten-above-requires c = 
+times_ten-above-requires c =
     let valid : Valid (described c.args.words.now) = c.requires.filled.0.indexes.valid in
     let known : Known (net_of c.args.words.now) c.args.path c.args.len = c.requires.filled.1 in
     let inside : c.spent_telling-spent.result.grains < 1000000 = c.if-spent-ge1000000.false in
@@ -46,7 +46,7 @@ times_ten-above-requires c =
     (rw c.times_up.ensures (sized-≤ (lit≤ tt) (times_up_sized time_fine left_fine)), lit≤ tt)
 
 pub times_ten-requires : goal.times_ten-requires
-times_ten-requires c = 
+times_ten-requires c =
     let valid : Valid (described c.args.words.now) = c.requires.filled.0.indexes.valid in
     let known : Known (net_of c.args.words.now) c.args.path c.args.len = c.requires.filled.1 in
     let inside : c.spent_telling-spent.result.grains < 1000000 = c.if-spent-ge1000000.false in
@@ -55,7 +55,7 @@ times_ten-requires c =
     (rw (figure_told c.times_down_telling-below.ensures) (sized-≤ (lit≤ tt) (times_down_sized time_fine left_fine)), lit≤ tt)
 
 pub product_telling-p-requires : goal.product_telling-p-requires
-product_telling-p-requires c = 
+product_telling-p-requires c =
     let above_is : c.times_ten-above.result ≡ times_ten (times_up c.args.time c.of_whole-rest.result) (negsuc 5) = rw c.times_up.ensures at c.times_ten-above.ensures in
     let valid : Valid (described c.args.words.now) = c.requires.filled.0.indexes.valid in
     let known : Known (net_of c.args.words.now) c.args.path c.args.len = c.requires.filled.1 in
@@ -64,7 +64,7 @@ product_telling-p-requires c =
     (c.requires.filled.0, c.requires.filled.1, below_fine)
 
 pub last_telling-last-requires : goal.last_telling-last-requires
-last_telling-last-requires c = 
+last_telling-last-requires c =
     let above_is : c.times_ten-above.result ≡ times_ten (times_up c.args.time c.of_whole-rest.result) (negsuc 5) = rw c.times_up.ensures at c.times_ten-above.ensures in
     let valid : Valid (described c.args.words.now) = c.requires.filled.0.indexes.valid in
     let known : Known (net_of c.args.words.now) c.args.path c.args.len = c.requires.filled.1 in
@@ -73,15 +73,15 @@ last_telling-last-requires c =
     (above_fine, sized-≤ (lit≤ tt) (rates_sized valid known c.spent_telling-spent.ensures), ones_few valid known c.spent_telling-spent.ensures)
 
 pub times_down_telling-lower-requires : goal.times_down_telling-lower-requires
-times_down_telling-lower-requires c = 
+times_down_telling-lower-requires c =
     let above_is : c.times_ten-above.result ≡ times_ten (times_up c.args.time c.of_whole-rest.result) (negsuc 5) = rw c.times_up.ensures at c.times_ten-above.ensures in
     let valid : Valid (described c.args.words.now) = c.requires.filled.0.indexes.valid in
     let known : Known (net_of c.args.words.now) c.args.path c.args.len = c.requires.filled.1 in
     let inside : c.spent_telling-spent.result.grains < 1000000 = c.if-spent-ge1000000.false in
-    ( sized-≤ (lit≤ tt) (product_sized valid known c.spent_telling-spent.ensures inside c.requires.time_value c.of_whole-rest.ensures c.times_down_telling-below.ensures c.times_ten.ensures above_is c.product_telling-p.ensures.figure_value c.product_telling-p.ensures.kept_value c.last_telling-last.ensures), sized-≤ (lit≤ tt) (last_told_sized valid known c.spent_telling-spent.ensures inside c.requires.time_value c.of_whole-rest.ensures c.times_down_telling-below.ensures c.times_ten.ensures above_is c.product_telling-p.ensures.figure_value c.product_telling-p.ensures.kept_value c.last_telling-last.ensures), )
+    (sized-≤ (lit≤ tt) (product_sized valid known c.spent_telling-spent.ensures inside c.requires.time_value c.of_whole-rest.ensures c.times_down_telling-below.ensures c.times_ten.ensures above_is c.product_telling-p.ensures.figure_value c.product_telling-p.ensures.kept_value c.last_telling-last.ensures), sized-≤ (lit≤ tt) (last_told_sized valid known c.spent_telling-spent.ensures inside c.requires.time_value c.of_whole-rest.ensures c.times_down_telling-below.ensures c.times_ten.ensures above_is c.product_telling-p.ensures.figure_value c.product_telling-p.ensures.kept_value c.last_telling-last.ensures))
 
 pub returns : goal.returns
-returns c = 
+returns c =
     let above_is : c.times_ten-above.result ≡ times_ten (times_up c.args.time c.of_whole-rest.result) (negsuc 5) = rw c.times_up.ensures at c.times_ten-above.ensures in
     let valid : Valid (described c.args.words.now) = c.requires.filled.0.indexes.valid in
     let known : Known (net_of c.args.words.now) c.args.path c.args.len = c.requires.filled.1 in

@@ -27,4 +27,3 @@ invariant-loop-i l = (l.i ≤ l.len) × ProductMarked (net_of l.words) l.t (path
 
 abbrev pub decreases-loop-i : goal.decreases-loop-i
 decreases-loop-i l = l.len - l.i
-

@@ -19,64 +19,65 @@ use Rattle.path.proofs.PathSteps.{step_small, state_held_small, rate_held, rate_
 use Rattle.path.proofs.StepMarks.{rate_kept_held, grains_kept_held}
 use Rattle.path.proofs.PathMarks.{SpentMarked, spent_marked_start, spent_marked_one, spent_marked_other, spent_told_is}
 use Rattle.path.proofs.marks.spent_telling.Goals as goal
+use Rattle.path.proofs.marks.spent_telling.Goals.{then-is_class1, else-is_class1}
 
 pub loop-i-init : goal.loop-i-init
 loop-i-init c = (omega arith, rw (path_none, c.zero-a.ensures) (spent_marked_start _))
 
 pub offset_bounds-path-i : goal.offset_bounds-path-i
-offset_bounds-path-i c = 
+offset_bounds-path-i c =
     let known : Known (net_of c.args.words.now) c.args.path c.args.len = c.requires.1 in
     omega (arith, known.short)
 
 pub bounds-path-i : goal.bounds-path-i
-bounds-path-i c = 
+bounds-path-i c =
     let known : Known (net_of c.args.words.now) c.args.path c.args.len = c.requires.1 in
     omega (arith, known.short)
 
 pub left_by-step-requires : goal.left_by-step-requires
-left_by-step-requires c = 
+left_by-step-requires c =
     let filled : Filled (lent c.args.words.now c.args.index.now c.args.table.now) = c.requires.0 in
     let known : Known (net_of c.args.words.now) c.args.path c.args.len = c.requires.1 in
     let inside : c.wide-j.result < length (net_of c.args.words.now).table = rw c.wide-j.ensures.0 (known.inside _ c.loop-i-test.true) in
     (filled, inside)
 
 pub rate_sum-requires : goal.rate_sum-requires
-rate_sum-requires c = 
+rate_sum-requires c =
     let filled : Filled (lent c.args.words.now c.args.index.now c.args.table.now) = c.requires.0 in
     let known : Known (net_of c.args.words.now) c.args.path c.args.len = c.requires.1 in
     let inside : c.wide-j.result < length (net_of c.args.words.now).table = rw c.wide-j.ensures.0 (known.inside _ c.loop-i-test.true) in
     state_held_small filled inside c.left_by-step.ensures.state_value
 
 pub plus_up_telling-more-requires : goal.plus_up_telling-more-requires
-plus_up_telling-more-requires c = 
+plus_up_telling-more-requires c =
     let filled : Filled (lent c.args.words.now c.args.index.now c.args.table.now) = c.requires.0 in
     let known : Known (net_of c.args.words.now) c.args.path c.args.len = c.requires.1 in
     let inside : c.wide-j.result < length (net_of c.args.words.now).table = rw c.wide-j.ensures.0 (known.inside _ c.loop-i-test.true) in
-    ( sized-≤ (lit≤ tt) (spent_sized filled.indexes.valid (known_less _ c.loop-i.invariant.0 known) c.loop-i.invariant.1.spent), sized-≤ (lit≤ tt) (rate_held_sized filled inside c.left_by-step.ensures.state_value c.rate_sum.ensures), )
+    (sized-≤ (lit≤ tt) (spent_sized filled.indexes.valid (known_less _ c.loop-i.invariant.0 known) c.loop-i.invariant.1.spent), sized-≤ (lit≤ tt) (rate_held_sized filled inside c.left_by-step.ensures.state_value c.rate_sum.ensures))
 
 pub rate_sum_kept-requires : goal.rate_sum_kept-requires
-rate_sum_kept-requires c = 
+rate_sum_kept-requires c =
     let filled : Filled (lent c.args.words.now c.args.index.now c.args.table.now) = c.requires.0 in
     let known : Known (net_of c.args.words.now) c.args.path c.args.len = c.requires.1 in
     let inside : c.wide-j.result < length (net_of c.args.words.now).table = rw c.wide-j.ensures.0 (known.inside _ c.loop-i-test.true) in
     state_held_small filled inside c.left_by-step.ensures.state_value
 
 pub overflow_add-k : goal.overflow_add-k
-overflow_add-k c = 
+overflow_add-k c =
     let known : Known (net_of c.args.words.now) c.args.path c.args.len = c.requires.1 in
     let so_far_short : length (path_of (net_of c.args.words.now) c.args.path c.loop-i.i) ≤ 24 = omega (arith, path_length (net_of c.args.words.now) c.args.path c.loop-i.i, known.short, c.loop-i.invariant.0) in
     let so_far_ones : c.loop-i.k ≤ 24 = omega (arith, c.loop-i.invariant.1.ones_are, class1_count-≤ (net_of c.args.words.now) (path_of (net_of c.args.words.now) c.args.path c.loop-i.i), so_far_short) in
     omega (arith, so_far_ones)
 
 pub grains-n-requires : goal.grains-n-requires
-grains-n-requires c = 
+grains-n-requires c =
     let filled : Filled (lent c.args.words.now c.args.index.now c.args.table.now) = c.requires.0 in
     let known : Known (net_of c.args.words.now) c.args.path c.args.len = c.requires.1 in
     let inside : c.wide-j.result < length (net_of c.args.words.now).table = rw c.wide-j.ensures.0 (known.inside _ c.loop-i-test.true) in
     step_small filled inside
 
 pub overflow_add-n : goal.overflow_add-n
-overflow_add-n c = 
+overflow_add-n c =
     let filled : Filled (lent c.args.words.now c.args.index.now c.args.table.now) = c.requires.0 in
     let known : Known (net_of c.args.words.now) c.args.path c.args.len = c.requires.1 in
     let so_far_short : length (path_of (net_of c.args.words.now) c.args.path c.loop-i.i) ≤ 24 = omega (arith, path_length (net_of c.args.words.now) c.args.path c.loop-i.i, known.short, c.loop-i.invariant.0) in
@@ -84,14 +85,14 @@ overflow_add-n c =
     let most = spent_high c.loop-i.invariant.1.spent so_far_short in omega (arith, grains_held_high filled inside c.grains-n.ensures, most)
 
 pub grains_kept-requires : goal.grains_kept-requires
-grains_kept-requires c = 
+grains_kept-requires c =
     let filled : Filled (lent c.args.words.now c.args.index.now c.args.table.now) = c.requires.0 in
     let known : Known (net_of c.args.words.now) c.args.path c.args.len = c.requires.1 in
     let inside : c.wide-j.result < length (net_of c.args.words.now).table = rw c.wide-j.ensures.0 (known.inside _ c.loop-i-test.true) in
     step_small filled inside
 
 pub overflow_add-i : goal.overflow_add-i
-overflow_add-i c = 
+overflow_add-i c =
     let known : Known (net_of c.args.words.now) c.args.path c.args.len = c.requires.1 in
     omega (arith, known.short, c.loop-i-test.true)
 
@@ -99,13 +100,13 @@ pub loop-i-smaller : goal.loop-i-smaller
 loop-i-smaller c = omega (arith, c.loop-i-test.true)
 
 pub loop-i-preserved : goal.loop-i-preserved
-loop-i-preserved c = 
+loop-i-preserved c =
     let tested : c.is_class1.result ≡ is_class1 (step_class (net_of c.args.words.now) c.wide-j.result) = rw c.left_by-step.ensures.class_value at c.is_class1.ensures in
     let filled : Filled (lent c.args.words.now c.args.index.now c.args.table.now) = c.requires.0 in
     let known : Known (net_of c.args.words.now) c.args.path c.args.len = c.requires.1 in
     let inside : c.wide-j.result < length (net_of c.args.words.now).table = rw c.wide-j.ensures.0 (known.inside _ c.loop-i-test.true) in
-    ( omega (arith, c.loop-i-test.true), rw (path_more (net_of c.args.words.now) c.args.path c.loop-i.i c.wide-j.ensures.0) (⊎_elim (λ w. rw (w.7, w.8, w.9, w.10, w.11) (spent_marked_one c.loop-i.invariant.1 _ (one_true _ (sym tested ∙ w.0.taken)) (rate_held filled inside c.left_by-step.ensures.state_value w.1.ensures) (rate_kept_held filled inside c.left_by-step.ensures.state_value w.4.ensures) w.2.ensures w.5.ensures w.6.ensures)) (λ w. rw (w.4, w.5, w.6, w.7, w.8) (spent_marked_other c.loop-i.invariant.1 _ (one_false _ (sym tested ∙ w.0.left)) (grains_held filled inside w.1.ensures) (grains_kept_held filled inside w.2.ensures) w.3.ensures)) c.if-is_class1.branch), )
+    (omega (arith, c.loop-i-test.true), rw (path_more (net_of c.args.words.now) c.args.path c.loop-i.i c.wide-j.ensures.0) (elim c.if-is_class1.branch [ then-is_class1 w ↦ rw (w.7, w.8, w.9, w.10, w.11) (spent_marked_one c.loop-i.invariant.1 _ (one_true _ (sym tested ∙ w.if-is_class1.true)) (rate_held filled inside c.left_by-step.ensures.state_value w.1.ensures) (rate_kept_held filled inside c.left_by-step.ensures.state_value w.4.ensures) w.2.ensures w.5.ensures w.6.ensures) | else-is_class1 w ↦ rw (w.4, w.5, w.6, w.7, w.8) (spent_marked_other c.loop-i.invariant.1 _ (one_false _ (sym tested ∙ w.if-is_class1.false)) (grains_held filled inside w.1.ensures) (grains_kept_held filled inside w.2.ensures) w.3.ensures) ]))
 
 pub returns : goal.returns
-returns c = 
+returns c =
     let e : c.loop-i.i ≡ c.args.len = omega (arith, c.loop-i.invariant.0, c.loop-i-test.false) in spent_told_is (rw e at c.loop-i.invariant.1)

@@ -24,4 +24,3 @@ invariant-loop-i l = (l.i ≤ l.len) × SpentMarked (net_of l.words) (path_of (n
 
 abbrev pub decreases-loop-i : goal.decreases-loop-i
 decreases-loop-i l = l.len - l.i
-

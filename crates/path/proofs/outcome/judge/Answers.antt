@@ -20,15 +20,15 @@ returns-then-entry_limit-before c = rw (c.if-named.false, ne_eqb _ _ c.if-exits-
 
 pub returns-then-left-eq0 : goal.returns-then-left-eq0
 unfolding judged decided
-returns-then-left-eq0 c = 
+returns-then-left-eq0 c =
     rw (c.if-named.false, ne_eqb _ _ c.if-exits-eq0.false, lt-leb _ _ c.if-entry_limit-before.false, eq-eqb _ _ c.if-left-eq0.true, decided)
 
 pub returns-then-at_or_below : goal.returns-then-at_or_below
 unfolding judged decided
-returns-then-at_or_below c = 
-    rw ( c.if-named.false, ne_eqb _ _ c.if-exits-eq0.false, lt-leb _ _ c.if-entry_limit-before.false, ne_eqb _ _ c.if-left-eq0.false, sym c.at_or_below.ensures ∙ c.if-at_or_below.true, decided, )
+returns-then-at_or_below c =
+    rw (c.if-named.false, ne_eqb _ _ c.if-exits-eq0.false, lt-leb _ _ c.if-entry_limit-before.false, ne_eqb _ _ c.if-left-eq0.false, sym c.at_or_below.ensures ∙ c.if-at_or_below.true, decided)
 
 pub returns : goal.returns
 unfolding judged decided
-returns c = 
-    rw ( c.if-named.false, ne_eqb _ _ c.if-exits-eq0.false, lt-leb _ _ c.if-entry_limit-before.false, ne_eqb _ _ c.if-left-eq0.false, sym c.at_or_below.ensures ∙ c.if-at_or_below.false, decided, )
+returns c =
+    rw (c.if-named.false, ne_eqb _ _ c.if-exits-eq0.false, lt-leb _ _ c.if-entry_limit-before.false, ne_eqb _ _ c.if-left-eq0.false, sym c.at_or_below.ensures ∙ c.if-at_or_below.false, decided)

@@ -21,7 +21,7 @@ pub returns-then-is_named : goal.returns-then-is_named
 returns-then-is_named c = by_name _ (sym c.if-is_named.true ∙ c.is_named.ensures)
 
 pub returns-then-exit_count-ne0 : goal.returns-then-exit_count-ne0
-returns-then-exit_count-ne0 c = 
+returns-then-exit_count-ne0 c =
     by_exits _ (sym c.if-is_named.false ∙ c.is_named.ensures) (λ z. c.if-exit_count-ne0.true (c.exit_count.ensures.0 ∙ z))
 
 pub returns : goal.returns

@@ -10,4 +10,3 @@ invariant-loop-s l = (l.s ≤ l.states) × Listed l.index l.targets l.s l.initia
 
 abbrev pub decreases-loop-s : goal.decreases-loop-s
 decreases-loop-s l = l.states - l.s
-

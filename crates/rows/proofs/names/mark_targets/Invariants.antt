@@ -15,4 +15,3 @@ invariant-loop-j l = (l.j ≤ l.transitions) × Targets (net_of l.words).table l
 
 abbrev pub decreases-loop-j : goal.decreases-loop-j
 decreases-loop-j l = l.transitions - l.j
-

@@ -16,5 +16,5 @@ pub list_states-n-requires : goal.list_states-n-requires
 list_states-n-requires c = (states_few c.requires.0 c.requires.1, ap length c.clear.ensures)
 
 pub returns : goal.returns
-returns c = 
+returns c =
     let all = rw (transitions_are c.requires.0 c.requires.1 c.transition_count.ensures) at c.mark_targets.ensures in named c.requires.0 all c.clear.ensures (rw (ap (λ a. a.states) c.requires.1) at c.list_states-n.ensures)

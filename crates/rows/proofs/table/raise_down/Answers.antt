@@ -13,7 +13,7 @@ pub total_down-requires : goal.total_down-requires
 total_down-requires c = (rw c.total_at-total.ensures (room_operand c.requires.2), sized-≤ (lit≤ tt) c.requires.3)
 
 pub put_total-requires : goal.put_total-requires
-put_total-requires c = 
+put_total-requires c =
     (c.requires.0, c.requires.1, rw (c.total_down.ensures, c.total_at-total.ensures) (down_operand c.requires.2 _ c.requires.3))
 
 pub returns : goal.returns

@@ -12,4 +12,3 @@ invariant-loop-i l = (l.i ≤ length l.more) × Added l.initial.t (take l.i l.mo
 
 abbrev pub decreases-loop-i : goal.decreases-loop-i
 decreases-loop-i l = length l.more - l.i
-

@@ -20,25 +20,25 @@ pub returns-then-d-eq0 : goal.returns-then-d-eq0
 returns-then-d-eq0 c = rw (zero_text c.args.f c.if-d-eq0.true) c.with.ensures
 
 pub with_last-requires : goal.with_last-requires
-with_last-requires c = 
+with_last-requires c =
     let room_first_digit : Room c.args.self (first_digit c.args.f ++ from_point c.args.f) = rw (some_text c.args.f c.if-d-eq0.false) at c.requires in
     room_first (first_digit c.args.f) (from_point c.args.f) room_first_digit
 
 pub with-requires-2 : goal.with-requires-2
-with-requires-2 c = 
+with-requires-2 c =
     let room_first_digit : Room c.args.self (first_digit c.args.f ++ from_point c.args.f) = rw (some_text c.args.f c.if-d-eq0.false) at c.requires in
     let room_point : Room c.with_last.result (from_point c.args.f) = room_then (first_digit c.args.f) (from_point c.args.f) room_first_digit c.with_last.ensures in
     room_first (46 ∷ []) (from_eight c.args.f) room_point
 
 pub with_last-requires-2 : goal.with_last-requires-2
-with_last-requires-2 c = 
+with_last-requires-2 c =
     let room_first_digit : Room c.args.self (first_digit c.args.f ++ from_point c.args.f) = rw (some_text c.args.f c.if-d-eq0.false) at c.requires in
     let room_point : Room c.with_last.result (from_point c.args.f) = room_then (first_digit c.args.f) (from_point c.args.f) room_first_digit c.with_last.ensures in
     let room_eight : Room c.with-2.result (from_eight c.args.f) = room_then (46 ∷ []) (from_eight c.args.f) room_point c.with-2.ensures in
     room_first (eight_digits c.args.f) (from-E c.args.f) room_eight
 
 pub with-requires-3 : goal.with-requires-3
-with-requires-3 c = 
+with-requires-3 c =
     let room_first_digit : Room c.args.self (first_digit c.args.f ++ from_point c.args.f) = rw (some_text c.args.f c.if-d-eq0.false) at c.requires in
     let room_point : Room c.with_last.result (from_point c.args.f) = room_then (first_digit c.args.f) (from_point c.args.f) room_first_digit c.with_last.ensures in
     let room_eight : Room c.with-2.result (from_eight c.args.f) = room_then (46 ∷ []) (from_eight c.args.f) room_point c.with-2.ensures in
@@ -46,7 +46,7 @@ with-requires-3 c =
     room_first (69 ∷ []) (from_exponent c.args.f) room-E
 
 pub with_signed-requires : goal.with_signed-requires
-with_signed-requires c = 
+with_signed-requires c =
     let room_first_digit : Room c.args.self (first_digit c.args.f ++ from_point c.args.f) = rw (some_text c.args.f c.if-d-eq0.false) at c.requires in
     let room_point : Room c.with_last.result (from_point c.args.f) = room_then (first_digit c.args.f) (from_point c.args.f) room_first_digit c.with_last.ensures in
     let room_eight : Room c.with-2.result (from_eight c.args.f) = room_then (46 ∷ []) (from_eight c.args.f) room_point c.with-2.ensures in
@@ -56,6 +56,6 @@ with_signed-requires c =
     (rw (stored_is _ c.exponent-e.ensures.1) c.exponent-e.ensures.1, rw exponent_is room_exponent)
 
 pub returns : goal.returns
-returns c = 
+returns c =
     let exponent_is : stored c.exponent-e.result ≡ c.args.f.power +ℤ pos 8 = let f : SFits w32 c.args.f.power = record { sfits = omega (arith, c.struct_told-1.given) } in stored_is _ c.exponent-e.ensures.1 ∙ c.exponent-e.ensures.0 ∙ ap (λ (z : ℤ). z +ℤ pos 8) (to_z-of_z f) in
     rw (some_text c.args.f c.if-d-eq0.false) (added_then c.with_last.ensures (added_then c.with-2.ensures (added_then c.with_last-2.ensures (added_then c.with-3.ensures (rw exponent_is at c.with_signed.ensures)))))

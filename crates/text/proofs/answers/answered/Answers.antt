@@ -7,9 +7,9 @@ use Rattle.text.proofs.Lending.{rules, text_enough}
 use Rattle.text.proofs.answers.answered.Goals as goal
 
 pub slice_bounds-words_text-end : goal.slice_bounds-words_text-end
-slice_bounds-words_text-end c = 
+slice_bounds-words_text-end c =
     sym (length-take-le c.words_of-n.result c.words_of-n.last.1.0 (omega (arith, c.words_of-n.ensures.spelled.whole, c.words_of-n.ensures.spelled.within)))
 
 pub returns : goal.returns
-returns c = 
-    let t = rw c.words_of-n.ensures.spelled.words_are at c.words_text.ensures.holds in (rw (text_enough c.args.bytes.now c.args.budget) t, (rules _ _, refl))
+returns c =
+    let both = let t = rw c.words_of-n.ensures.spelled.words_are at c.words_text.ensures.holds in (rw (text_enough c.args.bytes.now c.args.budget) t, (rules _ _, refl)) in record { holds = both.0; rules = both.1; bytes_value = both.2 }

@@ -4,5 +4,5 @@ use Rattle.text.proofs.Lending.{rules}
 use Rattle.text.proofs.answers.words_text.Goals as goal
 
 pub returns : goal.returns
-returns c = 
-    (rw (c.unreliability.ensures.answer_is, c.unreliability.ensures.marks_are) at c.answer_text.ensures, (rules _ _, c.unreliability.ensures.words_unchanged))
+returns c =
+    let both = (rw (c.unreliability.ensures.answer_is, c.unreliability.ensures.marks_are) at c.answer_text.ensures, (rules _ _, c.unreliability.ensures.words_unchanged)) in record { holds = both.0; rules = both.1; words_value = both.2 }

@@ -29,7 +29,7 @@ pub overflow_add-n : goal.overflow_add-n
 overflow_add-n c = omega (arith, c.requires.0)
 
 pub loop-at-preserved : goal.loop-at-preserved
-loop-at-preserved c = 
+loop-at-preserved c =
     rw (c.word.ensures, rest c.args.bytes.now c.loop-at.at) (filled_more c.loop-at.invariant (omega arith) (omega (arith, c.requires.0)))
 
 pub offset_bounds-words-n-then-at-bytes : goal.offset_bounds-words-n-then-at-bytes

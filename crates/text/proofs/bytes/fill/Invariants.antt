@@ -10,4 +10,3 @@ invariant-loop-at l = Filled l.bytes l.words l.at l.n
 
 abbrev pub decreases-loop-at : goal.decreases-loop-at
 decreases-loop-at l = length l.bytes - l.at
-

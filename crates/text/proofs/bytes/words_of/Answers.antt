@@ -10,7 +10,7 @@ use Rattle.text.specs.Bytes.{words_size, most_bytes}
 use Rattle.text.proofs.bytes.words_of.Goals as goal
 
 pub returns-then-bytes-le-BYTES_SIZE : goal.returns-then-bytes-le-BYTES_SIZE
-returns-then-bytes-le-BYTES_SIZE c = 
+returns-then-bytes-le-BYTES_SIZE c =
     record { spelled = rw (take_all most_bytes c.args.bytes.now (omega arith)) c.fill.ensures; bytes_value = refl }
 
 pub slice_bounds-fill-end : goal.slice_bounds-fill-end

@@ -9,9 +9,9 @@ use Rattle.text.proofs.Lending.{row_rules, printed_enough}
 use Rattle.text.proofs.program.report.Goals as goal
 
 pub slice_bounds-lending_rows-end : goal.slice_bounds-lending_rows-end
-slice_bounds-lending_rows-end c = 
-    sym (length-take-le c.words_of-n.result c.words_of-n.new.1.0 (omega (arith, c.words_of-n.ensures.spelled.whole, c.words_of-n.ensures.spelled.within)))
+slice_bounds-lending_rows-end c =
+    sym (length-take-le c.words_of-n.result c.words_of-n.new.words (omega (arith, c.words_of-n.ensures.spelled.whole, c.words_of-n.ensures.spelled.within)))
 
 pub returns : goal.returns
-returns c = 
-    let t = rw (c.lending_rows.ensures.answer_is, c.lending_rows.ensures.marks_are, c.words_of-n.ensures.spelled.words_are) at c.answer_text.ensures in (rw (printed_enough c.args.bytes.now 1000000) t, (row_rules _ _, (faithful_text, refl)))
+returns c =
+    let both = let t = rw (c.lending_rows.ensures.answer_is, c.lending_rows.ensures.marks_are, c.words_of-n.ensures.spelled.words_are) at c.answer_text.ensures in (rw (printed_enough c.args.bytes.now 1000000) t, (row_rules _ _, (faithful_text, refl))) in record { holds = both.0; rules = both.1; faithful_text = both.2; bytes_value = both.3 }
