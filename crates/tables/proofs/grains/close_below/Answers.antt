@@ -1,0 +1,24 @@
+-- `grains::close_below` meets its contract. The loop's invariant: what was found so far is below; the measure is the bit. Assumes nothing.
+use mathlib.Core.Logic.{⊎_elim}
+use Prim.Native.Nat.{◌≤◌}
+use native.Mathlib.Omega.{arith}
+use lib.Dec.{lit≤}
+use Rattle.tables.specs.Internal.Roots.{exponent, Below}
+use Rattle.tables.proofs.Search.{below_none, below_more, below_same}
+use Rattle.tables.proofs.grains.close_below.Goals as goal
+
+pub loop-bit-init : goal.loop-bit-init
+loop-bit-init c = (lit≤ tt, below_none (exponent c.args.cube) c.args.c)
+
+pub overflow_add-m : goal.overflow_add-m
+overflow_add-m c = omega (arith, c.loop-bit.invariant.1.bounded)
+
+pub power-requires : goal.power-requires
+power-requires c = c.if-m-lt1000000.true
+
+pub loop-bit-preserved : goal.loop-bit-preserved
+loop-bit-preserved c =
+    (omega arith, ⊎_elim (λ w. below_more w.3 w.0.taken w.1.ensures w.2.taken) (⊎_elim (λ w. below_same w.3 c.loop-bit.invariant.1) (λ w. below_same w.1 c.loop-bit.invariant.1)) c.if-m-lt1000000.branch)
+
+pub returns : goal.returns
+returns c = c.loop-bit.invariant.1

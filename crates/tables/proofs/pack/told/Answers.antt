@@ -1,0 +1,6 @@
+-- `pack::told` meets its contract. Assumes nothing.
+use borrow.Author.Rules.{rules}
+use Rattle.tables.proofs.pack.told.Goals as goal
+
+pub returns : goal.returns
+returns c = rw (c.is_marked-kept.ensures, c.unpack-figure.ensures)

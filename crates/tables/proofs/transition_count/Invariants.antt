@@ -1,0 +1,16 @@
+use mathlib.Core.Path.{◌≡◌, refl, sym, ap, ap₂, ◌∙◌}
+use Prim.Native.Nat.{ℕ, ◌+◌, ◌*◌, ◌-◌, ◌≤◌}
+use native.Mathlib.Omega.{arith}
+use native.Mathlib.Nat.{le_antisymm}
+use native.Mathlib.Numerals.{add-one}
+use mathlib.Core.List.{List}
+use Rattle.model.specs.Index.{exit_count}
+use borrow.Author.Rules.{rules}
+use Rattle.tables.specs.Internal.Described.{exit_total}
+use Rattle.tables.proofs.transition_count.Given as goal
+
+abbrev pub invariant-loop-s : goal.invariant-loop-s
+invariant-loop-s l = (l.total ≡ exit_total l.index l.s) × ((l.s ≤ l.states) × (l.total ≤ 65536 * l.s))
+
+abbrev pub decreases-loop-s : goal.decreases-loop-s
+decreases-loop-s l = l.states - l.s
