@@ -22,6 +22,7 @@ use Rattle.model.proofs.Refusals.{refused_not_granted, read_wrong, read_right, l
 -- what is read after n right words
 pass_read : (ws : List ℕ) (i n : ℕ) {r s : Reader} → Passes r ws n s → read_from r i ws ≡ read_from s (i + n) (drop n ws)
 pass_read ws i zero (none {r}) = ap (λ (j : ℕ). read_from r j ws) (sym (add-zero i))
+pass_read [] i (suc n) {r = r} {s = s} x' = elim x' [ ]
 pass_read (w ∷ ws) i (suc n) (one {r} {q} {s} e p) =
     read_right r i w ws q e ∙ pass_read ws (suc i) n p ∙ ap (λ (j : ℕ). read_from s j (drop n ws)) (omega arith)
 

@@ -13,7 +13,7 @@ use Rattle.model.specs.Index.{exit_count, named_flag}
 use Rattle.model.specs.Internal.Parts.{leads_on_by}
 use Rattle.model.proofs.Stopping.{lowest_all, lowest_turn, lowest_next, lowest_none_left}
 use Rattle.model.proofs.named.lowest_leading_on.Goals as goal
-use Rattle.model.proofs.named.lowest_leading_on.Goals.{then-is_named, else-is_named}
+use Rattle.model.proofs.named.lowest_leading_on.Goals.{then-is_named+else-exit_count-ne0, else-is_named}
 
 -- the test by the index, from its two halves
 leads : (index : List ℕ) (s : ℕ) → eqb (named_flag index s) 1 ≡ true → (exit_count index s ≡ 0 → ⊥) → leads_on_by index s ≡ true
@@ -40,7 +40,7 @@ overflow_add-s c = omega (arith, c.requires)
 
 pub loop-s-preserved : goal.loop-s-preserved
 loop-s-preserved c =
-    let passed : leads_on_by c.args.index.now c.loop-s.s ≡ false = elim c.if-is_named.branch [ then-is_named w ↦ ends c.args.index.now c.loop-s.s (sym w.1.ensures.0 ∙ w.2.left) | else-is_named w ↦ rw (sym c.is_named.ensures ∙ w.left) ] in
+    let passed : leads_on_by c.args.index.now c.loop-s.s ≡ false = elim c.if-is_named.branch [ then-is_named+else-exit_count-ne0 w ↦ ends c.args.index.now c.loop-s.s (sym w.exit_count.ensures.0 ∙ w.if-exit_count-ne0.false) | else-is_named w ↦ rw (sym c.is_named.ensures ∙ w.if-is_named.false) ] in
     let next = lowest_next (leads_on_by c.args.index.now) c.args.states c.loop-s.s c.loop-s-test.true passed in (omega arith, (omega arith, next ∙ c.loop-s.invariant.1.1))
 
 pub returns : goal.returns

@@ -67,7 +67,7 @@ pub loop-i-preserved : goal.loop-i-preserved
 loop-i-preserved c =
     let fast_is : c.is_fast.result ≡ eqb (kind (get_or c.args.words.now c.slot_place-at.result 0)) 7 = let word = part_word c.args.words.now c.slot_place-at.result in c.is_fast.ensures ∙ ap (λ (w : ℕ). eqb (kind w) 7) (c.word_at.ensures ∙ word) in
     let turn : Summed (slot_transitions c.args.words.now c.args.index.now c.args.s c.args.n) (transition_at (drop c.slot_place-at.result c.args.words.now) ∷ rest c.args.words.now c.args.index.now c.args.s c.args.n (c.loop-i.i + 1)) c.loop-i.i c.loop-i.sum c.loop-i.any = rw c.slot_place-at.ensures.0 (rw (along_turn _ c.args.n c.loop-i.i c.loop-i-test.true) at c.loop-i.invariant.1) in
-    let is = sym fast_is in (omega arith, elim c.if-is_fast.branch [ then-is_fast w ↦ rw (w.3, w.4) (summed_fast_word c.args.words.now c.slot_place-at.result _ _ c.loop-i.i c.loop-i.sum c.loop-i.any turn (eqb-true _ 7 (is ∙ w.if-is_fast.true)) w.2.result (rw part_from at w.2.ensures.0) w.2.ensures.1) | else-is_fast w ↦ rw (w.1, w.2) (summed_slow_word c.args.words.now c.slot_place-at.result _ _ c.loop-i.i c.loop-i.sum c.loop-i.any turn (eqb-false _ 7 (is ∙ w.if-is_fast.false))) ])
+    let is = sym fast_is in (omega arith, elim c.if-is_fast.branch [ then-is_fast w ↦ rw (w.sum-is, w.any-is) (summed_fast_word c.args.words.now c.slot_place-at.result _ _ c.loop-i.i c.loop-i.sum c.loop-i.any turn (eqb-true _ 7 (is ∙ w.if-is_fast.true)) w.units-sum.result (rw part_from at w.units-sum.ensures.value) w.units-sum.ensures.upper_bound) | else-is_fast w ↦ rw (w.sum-is, w.any-is) (summed_slow_word c.args.words.now c.slot_place-at.result _ _ c.loop-i.i c.loop-i.sum c.loop-i.any turn (eqb-false _ 7 (is ∙ w.if-is_fast.false))) ])
 
 pub returns-then-any : goal.returns-then-any
 returns-then-any c =
