@@ -55,7 +55,7 @@ sum_units : {a : Fraction} {n : ℕ} (ts : List Transition) → FineProbabilitie
     → Units (sum_over add_exact_probability a ts) (n + probability_sum ts)
 unfolding sum_over Each probability_sum
 sum_units {n = n} [] w h = let e : n + 0 ≡ n = omega arith in rw e h
-sum_units {a} {n} (t ∷ ts) w h = rw (← add_assoc) (sum_units ts w.1 (added t.manner w.0))
+sum_units {a} {n} (t ∷ ts) w h = rw (← add_assoc) (sum_units {a = add_exact_probability a t.manner} {n = n + probability_units t.manner} ts w.1 (added t.manner w.0))
   where
     added : (x : Manner) → FineProbability x → Units (add_exact_probability a x) (n + probability_units x)
     added (slow r) v = let e : n + 0 ≡ n = omega arith in rw e h

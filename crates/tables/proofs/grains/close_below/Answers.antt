@@ -6,6 +6,7 @@ use lib.Dec.{lit≤}
 use Rattle.tables.specs.Internal.Roots.{exponent, Below}
 use Rattle.tables.proofs.Search.{below_none, below_more, below_same}
 use Rattle.tables.proofs.grains.close_below.Goals as goal
+use Rattle.tables.proofs.grains.close_below.Goals.{then-m-lt1000000+then-power-c, then-m-lt1000000+else-power-c, else-m-lt1000000}
 
 pub loop-bit-init : goal.loop-bit-init
 loop-bit-init c = (lit≤ tt, below_none (exponent c.args.cube) c.args.c)
@@ -18,7 +19,7 @@ power-requires c = c.if-m-lt1000000.true
 
 pub loop-bit-preserved : goal.loop-bit-preserved
 loop-bit-preserved c =
-    (omega arith, ⊎_elim (λ w. below_more w.3 w.0.taken w.1.ensures w.2.taken) (⊎_elim (λ w. below_same w.3 c.loop-bit.invariant.1) (λ w. below_same w.1 c.loop-bit.invariant.1)) c.if-m-lt1000000.branch)
+    (omega arith, elim c.if-m-lt1000000.branch [ then-m-lt1000000+then-power-c w ↦ below_more w.n-is w.if-m-lt1000000.true w.power.ensures w.if-power-c.true | then-m-lt1000000+else-power-c w ↦ below_same w.n-is c.loop-bit.invariant.1 | else-m-lt1000000 w ↦ below_same w.n-is c.loop-bit.invariant.1 ])
 
 pub returns : goal.returns
 returns c = c.loop-bit.invariant.1

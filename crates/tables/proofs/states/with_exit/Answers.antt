@@ -95,6 +95,7 @@ second_moment-requires c =
     let f = fast_figures in (sized-≤ (lit≤ tt) (mean_sized f), sized-≤ (lit≤ tt) (deviation_sized f))
 
 pub by_moment-requires : goal.by_moment-requires
+unfolding moment_of
 by_moment-requires c =
     let is_seven : eqb (kind (get_or c.args.part.now 0 0)) 7 ≡ true = sym c.is_fast.ensures ∙ c.if-is_fast.true in
     let fast_figures : FastRead (transition_at c.args.part.now).manner c.figure_at-m.result c.figure_at-d.result c.figure_at-q.result = fast_read c.requires.0 is_seven c.figure_at-m.ensures c.figure_at-d.ensures c.figure_at-q.ensures in
@@ -102,6 +103,7 @@ by_moment-requires c =
     let f = fast_figures in (sized-≤ (lit≤ tt) (probability_sized f), sized-≤ (lit≤ tt) moment_operand)
 
 pub added_up-more_moment-requires : goal.added_up-more_moment-requires
+unfolding moment_of
 added_up-more_moment-requires c =
     let is_seven : eqb (kind (get_or c.args.part.now 0 0)) 7 ≡ true = sym c.is_fast.ensures ∙ c.if-is_fast.true in
     let fast_figures : FastRead (transition_at c.args.part.now).manner c.figure_at-m.result c.figure_at-d.result c.figure_at-q.result = fast_read c.requires.0 is_seven c.figure_at-m.ensures c.figure_at-d.ensures c.figure_at-q.ensures in

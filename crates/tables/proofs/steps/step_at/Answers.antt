@@ -120,7 +120,7 @@ class3_step-requires c =
     let seven_read : eqb (kind (get_or c.args.words.now c.place_of-at.result 0)) 7 ≡ c.is_fast.result = sym (c.is_fast.ensures ∙ ap (λ (x : ℕ). eqb (kind x) 7) word_read) in
     let not_seven : eqb (kind (get_or c.args.words.now c.place_of-at.result 0)) 7 ≡ false = seven_read ∙ c.if-is_fast.false in
     let placed : Placed c.args.words.now (transition (net_of c.args.words.now) c.args.j) c.place_of-at.result = step_placed c.requires.0 c.requires.1 c.place_of-at.ensures.0 in
-    let both = let p = placed in let l = leaves in ((placed_first p, ap is_fast (placed_manner p) ∙ placed_fast p ∙ not_seven), ((rw c.told_rate_sum-rate.ensures l.rate.sized, rw c.told_mean_down-mean.ensures l.mean.sized, rw c.told_moment_sum.ensures l.moment.sized, time_in_range c.requires.0), (pos_of_ne-zero c.if-low-eq0.false, time_positive c.requires.0))) in record { stands_first = both.0; sized = both.1; digits_nonzero = both.2 }
+    let p = placed in let l = leaves in record { stands_first = (placed_first p, ap is_fast (placed_manner p) ∙ placed_fast p ∙ not_seven); sized = (rw c.told_rate_sum-rate.ensures l.rate.sized, rw c.told_mean_down-mean.ensures l.mean.sized, rw c.told_moment_sum.ensures l.moment.sized, time_in_range c.requires.0); digits_nonzero = (pos_of_ne-zero c.if-low-eq0.false, time_positive c.requires.0) }
 
 pub returns : goal.returns
 returns c =

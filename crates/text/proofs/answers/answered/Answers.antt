@@ -12,4 +12,4 @@ slice_bounds-words_text-end c =
 
 pub returns : goal.returns
 returns c =
-    let both = let t = rw c.words_of-n.ensures.spelled.words_are at c.words_text.ensures.holds in (rw (text_enough c.args.bytes.now c.args.budget) t, (rules _ _, refl)) in record { holds = both.0; rules = both.1; bytes_value = both.2 }
+    let t = rw c.words_of-n.ensures.spelled.words_are at c.words_text.ensures.holds in record { holds = rw (text_enough c.args.bytes.now c.args.budget) t; rules = rules _ _; bytes_value = refl }

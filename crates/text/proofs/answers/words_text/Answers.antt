@@ -5,4 +5,4 @@ use Rattle.text.proofs.answers.words_text.Goals as goal
 
 pub returns : goal.returns
 returns c =
-    let both = (rw (c.unreliability.ensures.answer_is, c.unreliability.ensures.marks_are) at c.answer_text.ensures, (rules _ _, c.unreliability.ensures.words_unchanged)) in record { holds = both.0; rules = both.1; words_value = both.2 }
+    record { holds = rw (c.unreliability.ensures.answer_is, c.unreliability.ensures.marks_are) at c.answer_text.ensures; rules = rules _ _; words_value = c.unreliability.ensures.words_unchanged }
