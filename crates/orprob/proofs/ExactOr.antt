@@ -34,7 +34,7 @@ module _ (side : Pair → Figure) where
   left e c [] w h = ≈_trans (⊕_cong (≈_refl _) (⊗_one_right c)) h
   left e c (x ∷ xs) w h =
       ≈_trans (⊕_cong (≈_refl _) (same_value (c ∷ (ofℕ 1 ⊖ val (side x)) ∷ complementsᴺ xs ∷ []) (patom 0 *' (patom 1 *' patom 2)) (patom 0 *' patom 1 *' patom 2) tt tt))
-      (left _ (c ⊗ (ofℕ 1 ⊖ val (side x))) xs w.1
+      (left (joined e (val (side x))) (c ⊗ (ofℕ 1 ⊖ val (side x))) xs w.1
       (equal (e ∷ c ∷ val (side x) ∷ (ofℕ 1 ⊖ val (side x)) ∷ [])
       (hyp (patom 3) (patom 0 +' patom 1) (plit 1) ∷ hyp (plit 1) (patom 3 +' patom 2) (plit 1) ∷ [])
       (patom 2 +' patom 0 *' patom 3 +' patom 1 *' patom 3) (plit 1) tt tt h (⊖_back w.0)))

@@ -4,4 +4,4 @@ use Rattle.embed.proofs.bounds_text.Goals as goal
 
 pub returns : goal.returns
 returns c =
-    record { within = c.words_text-t.ensures.0.within; text_is = c.words_text-t.ensures.0.bytes; rules = c.words_text-t.ensures.1.0; words_unchanged = c.words_text-t.ensures.1.1 }
+    record { within = c.words_text-t.ensures.holds.within; text_is = c.words_text-t.ensures.holds.bytes; rules = c.words_text-t.ensures.rules; words_unchanged = c.words_text-t.ensures.words_value }

@@ -32,7 +32,7 @@ returns-then-is_slow c =
     let factor_is : c.factor.result ≡ factor_in c.args.table.now c.args.exit.index = c.factor.ensures ∙ ap (factor_in c.args.table.now) c.wide-j.ensures.0 in
     let last : LastStep (lent c.args.words.now c.args.index.now c.args.table.now) c.args.time c.args.path c.args.tip c.args.exit = c.requires.last_step.0 in
     let lower_is : let net = net_of c.args.words.now in c.lower_of-lower.result ≡ lower net (transition net c.args.exit.index ∷ path_of net c.args.path c.args.tip.len) = let h = last in death_at h c.kept_or_new_stem-stem.ensures.stem_for (share_held h.filled h.index share_is) (factor_held h.filled h.index factor_is) c.requires.last_step.1 c.lower_of-lower.ensures in
-    let h = last in let slow_step = ap is_slow (sym h.class_is) ∙ sym c.is_slow.ensures ∙ c.if-is_slow.true in record { lower_value = lower_is; cached_2 = record { stem_is = λ _. serves_kept _ _ slow_step h.leaves c.kept_or_new_stem-stem.ensures.0; sized = c.kept_or_new_stem-stem.ensures.1 } }
+    let h = last in let slow_step = ap is_slow (sym h.class_is) ∙ sym c.is_slow.ensures ∙ c.if-is_slow.true in record { lower_value = lower_is; cached_2 = record { stem_is = λ _. serves_kept _ _ slow_step h.leaves c.kept_or_new_stem-stem.ensures.stem_for; sized = c.kept_or_new_stem-stem.ensures.stem_sized } }
 
 pub returns : goal.returns
 returns c =

@@ -20,7 +20,7 @@ use Rattle.path.proofs.PathMarks.{SpentMarked, spent_marked_start, spent_marked_
 use Rattle.path.proofs.marks.spent_telling.Given as goal
 
 abbrev pub invariant-loop-i : goal.invariant-loop-i
-invariant-loop-i l = (l.i ≤ l.len) × SpentMarked (net_of l.words) (path_of (net_of l.words) l.path l.i) l.n l.n_kept l.a l.a-kept l.k
+invariant-loop-i l = (l.i ≤ l.len) × SpentMarked (net_of l.words) (path_of (net_of l.words) l.path l.i) l.n l.n_kept l.a l.a_kept l.k
 
 abbrev pub decreases-loop-i : goal.decreases-loop-i
 decreases-loop-i l = l.len - l.i
