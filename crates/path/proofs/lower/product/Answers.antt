@@ -118,7 +118,7 @@ loop-i-preserved c =
     let filled : Filled (lent c.args.words.now c.args.index.now c.args.table.now) = c.requires.0 in
     let known : Known (net_of c.args.words.now) c.args.path c.args.len = c.requires.1 in
     let inside : c.wide-j.result < length (net_of c.args.words.now).table = rw c.wide-j.ensures.0 (known.inside _ c.loop-i-test.true) in
-    (omega (arith, c.loop-i-test.true), rw (path_more (net_of c.args.words.now) c.args.path c.loop-i.i c.wide-j.ensures.0) (elim c.if-is_class1.branch [ then-is_class1 w ↦ rw (w.6, w.7, w.5.ensures, w.4.ensures, w.3.ensures, w.2.ensures) (multiplied_one _ c.loop-i.invariant.1 (one_true _ (sym tested ∙ w.if-is_class1.true)) (share_held filled inside w.1.ensures)) | else-is_class1 w ↦ rw (w.3, w.4, w.2.ensures) (multiplied_other _ c.loop-i.invariant.1 (one_false _ (sym tested ∙ w.if-is_class1.false)) (factor_held filled inside w.1.ensures)) ]))
+    (omega (arith, c.loop-i-test.true), rw (path_more (net_of c.args.words.now) c.args.path c.loop-i.i c.wide-j.ensures.0) (elim c.if-is_class1.branch [ then-is_class1 w ↦ rw (w.p-is, w.k-is, w.divided_down-p.ensures, w.of_whole.ensures, w.times_down-then-is_class1.ensures, w.times_down.ensures) (multiplied_one _ c.loop-i.invariant.1 (one_true _ (sym tested ∙ w.if-is_class1.true)) (share_held filled inside w.share.ensures)) | else-is_class1 w ↦ rw (w.p-is, w.k-is, w.times_down-p.ensures) (multiplied_other _ c.loop-i.invariant.1 (one_false _ (sym tested ∙ w.if-is_class1.false)) (factor_held filled inside w.factor.ensures)) ]))
 
 pub returns : goal.returns
 returns c =

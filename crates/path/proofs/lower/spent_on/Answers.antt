@@ -81,7 +81,7 @@ loop-i-preserved c =
     let filled : Filled (lent c.args.words.now c.args.index.now c.args.table.now) = c.requires.0 in
     let known : Known (net_of c.args.words.now) c.args.path c.args.len = c.requires.1 in
     let inside : c.wide-j.result < length (net_of c.args.words.now).table = rw c.wide-j.ensures.0 (known.inside _ c.loop-i-test.true) in
-    (omega (arith, c.loop-i-test.true), rw (path_more (net_of c.args.words.now) c.args.path c.loop-i.i c.wide-j.ensures.0) (elim c.if-is_class1.branch [ then-is_class1 w ↦ rw (w.3, w.4, w.2.ensures) (spent_one _ c.loop-i.invariant.1 (one_true _ (sym tested ∙ w.if-is_class1.true)) (rate_held filled inside c.left_by-step.ensures.state_value w.1.ensures)) | else-is_class1 w ↦ rw (w.2, w.3) (spent_other _ c.loop-i.invariant.1 (one_false _ (sym tested ∙ w.if-is_class1.false)) (grains_held filled inside w.1.ensures)) ]))
+    (omega (arith, c.loop-i-test.true), rw (path_more (net_of c.args.words.now) c.args.path c.loop-i.i c.wide-j.ensures.0) (elim c.if-is_class1.branch [ then-is_class1 w ↦ rw (w.n-is, w.a-is, w.plus_up-a.ensures) (spent_one _ c.loop-i.invariant.1 (one_true _ (sym tested ∙ w.if-is_class1.true)) (rate_held filled inside c.left_by-step.ensures.state_value w.rate_sum.ensures)) | else-is_class1 w ↦ rw (w.n-is, w.a-is) (spent_other _ c.loop-i.invariant.1 (one_false _ (sym tested ∙ w.if-is_class1.false)) (grains_held filled inside w.grains-n.ensures)) ]))
 
 pub returns : goal.returns
 returns c =

@@ -107,7 +107,7 @@ loop-i-preserved c =
     let filled : Filled (lent c.args.words.now c.args.index.now c.args.table.now) = c.requires.0 in
     let known : Known (net_of c.args.words.now) c.args.path c.args.len = c.requires.1 in
     let inside : c.wide-j.result < length (net_of c.args.words.now).table = rw c.wide-j.ensures.0 (known.inside _ c.loop-i-test.true) in
-    (omega (arith, c.loop-i-test.true), rw (path_more (net_of c.args.words.now) c.args.path c.loop-i.i c.wide-j.ensures.0) (elim c.if-is_class1.branch [ then-is_class1 w ↦ rw (w.6, w.7, w.8) (product_marked_one _ c.loop-i.invariant.1 (one_true _ (sym tested ∙ w.if-is_class1.true)) (share_held filled inside w.1.ensures) w.2.ensures w.3.ensures w.5.ensures) | else-is_class1 w ↦ rw (w.7, w.8, w.9) (product_marked_other _ c.loop-i.invariant.1 (one_false _ (sym tested ∙ w.if-is_class1.false)) (factor_held filled inside w.1.ensures) (factor_kept_held filled inside w.4.ensures) w.2.ensures w.5.ensures w.6.ensures) ]))
+    (omega (arith, c.loop-i-test.true), rw (path_more (net_of c.args.words.now) c.args.path c.loop-i.i c.wide-j.ensures.0) (elim c.if-is_class1.branch [ then-is_class1 w ↦ rw (w.p-is, w.kept-is, w.k-is) (product_marked_one _ c.loop-i.invariant.1 (one_true _ (sym tested ∙ w.if-is_class1.true)) (share_held filled inside w.share.ensures) w.of_whole.ensures w.one_telling-next.ensures w.both-kept.ensures) | else-is_class1 w ↦ rw (w.p-is, w.kept-is, w.k-is) (product_marked_other _ c.loop-i.invariant.1 (one_false _ (sym tested ∙ w.if-is_class1.false)) (factor_held filled inside w.factor.ensures) (factor_kept_held filled inside w.factor_kept.ensures) w.times_down_telling-next.ensures w.both.ensures w.both-kept-else-is_class1.ensures) ]))
 
 pub returns : goal.returns
 returns c =

@@ -105,7 +105,7 @@ loop-i-preserved c =
     let filled : Filled (lent c.args.words.now c.args.index.now c.args.table.now) = c.requires.0 in
     let known : Known (net_of c.args.words.now) c.args.path c.args.len = c.requires.1 in
     let inside : c.wide-j.result < length (net_of c.args.words.now).table = rw c.wide-j.ensures.0 (known.inside _ c.loop-i-test.true) in
-    (omega (arith, c.loop-i-test.true), rw (path_more (net_of c.args.words.now) c.args.path c.loop-i.i c.wide-j.ensures.0) (elim c.if-is_class1.branch [ then-is_class1 w ↦ rw (w.7, w.8, w.9, w.10, w.11) (spent_marked_one c.loop-i.invariant.1 _ (one_true _ (sym tested ∙ w.if-is_class1.true)) (rate_held filled inside c.left_by-step.ensures.state_value w.1.ensures) (rate_kept_held filled inside c.left_by-step.ensures.state_value w.4.ensures) w.2.ensures w.5.ensures w.6.ensures) | else-is_class1 w ↦ rw (w.4, w.5, w.6, w.7, w.8) (spent_marked_other c.loop-i.invariant.1 _ (one_false _ (sym tested ∙ w.if-is_class1.false)) (grains_held filled inside w.1.ensures) (grains_kept_held filled inside w.2.ensures) w.3.ensures) ]))
+    (omega (arith, c.loop-i-test.true), rw (path_more (net_of c.args.words.now) c.args.path c.loop-i.i c.wide-j.ensures.0) (elim c.if-is_class1.branch [ then-is_class1 w ↦ rw (w.n-is, w.n_kept-is, w.a-is, w.a_kept-is, w.k-is) (spent_marked_one c.loop-i.invariant.1 _ (one_true _ (sym tested ∙ w.if-is_class1.true)) (rate_held filled inside c.left_by-step.ensures.state_value w.rate_sum.ensures) (rate_kept_held filled inside c.left_by-step.ensures.state_value w.rate_sum_kept.ensures) w.plus_up_telling-more.ensures w.both.ensures w.both-a_kept.ensures) | else-is_class1 w ↦ rw (w.n-is, w.n_kept-is, w.a-is, w.a_kept-is, w.k-is) (spent_marked_other c.loop-i.invariant.1 _ (one_false _ (sym tested ∙ w.if-is_class1.false)) (grains_held filled inside w.grains-n.ensures) (grains_kept_held filled inside w.grains_kept.ensures) w.both-n_kept.ensures) ]))
 
 pub returns : goal.returns
 returns c =
