@@ -12,20 +12,20 @@ pub digit-requires : goal.digit-requires
 digit-requires t c = tt
 
 pub with-requires : goal.with-requires
-with-requires t c = rw c.digit.ensures (rw (digits_one c.args.most c.args.n (omega arith) (omega arith)) at c.requires.1)
+with-requires t c = rw c.digit.ensures (rw (digits_one c.args.most c.args.n (omega arith) (omega arith)) at c.requires)
 
 pub returns-then-n-lt10 : goal.returns-then-n-lt10
 returns-then-n-lt10 t c = rw (digits_one c.args.most c.args.n (omega arith) (omega arith)) (rw c.digit.ensures at c.with.ensures)
 
 pub with_decimal-requires : goal.with_decimal-requires
-with_decimal-requires t c = (omega (arith, c.requires.0), room_before (digits_more c.args.most c.args.n (omega arith) (omega arith)) c.requires.1)
+with_decimal-requires t c = (omega arith, room_before (digits_more c.args.most c.args.n (omega arith) (omega arith)) c.requires)
 
 pub digit-requires-2 : goal.digit-requires-2
 digit-requires-2 t c = tt
 
 pub with-requires-2 : goal.with-requires-2
-with-requires-2 t c = 
-    room_last (digits_more c.args.most c.args.n (omega arith) (omega arith)) c.digit-2.ensures c.requires.1 c.with_decimal.ensures
+with-requires-2 t c =
+    room_last (digits_more c.args.most c.args.n (omega arith) (omega arith)) c.digit-2.ensures c.requires c.with_decimal.ensures
 
 pub returns : goal.returns
 returns t c = added_last (digits_more c.args.most c.args.n (omega arith) (omega arith)) c.digit-2.ensures c.with_decimal.ensures c.with-2.ensures

@@ -9,4 +9,4 @@ use Rattle.text.proofs.Text.with.Goals as goal
 -- An array of the type has 256 elements: the last part of what owning the parameter tells.
 pub returns : goal.returns
 returns c =
-    let whole : length c.args.self.bytes ≡ 256 = sym (length-map c.args.self.bytes (λ v. v)) ∙ c.well-formed.0.1.1.0.1.0.1 in added_one c.args.self c.args.b (omega (arith, whole, c.requires.within))
+    let whole : length c.args.self.bytes ≡ 256 = search rules in added_one c.args.self c.args.b (omega (arith, whole, c.requires.within))

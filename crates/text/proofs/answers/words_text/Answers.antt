@@ -1,5 +1,4 @@
 -- `text::answers::words_text` meets its contract, by what the entry point promises. Assumes nothing.
-use borrow.Author.Rules.{rules}
 use Rattle.text.proofs.Lending.{rules}
 use Rattle.text.proofs.answers.words_text.Goals as goal
 
