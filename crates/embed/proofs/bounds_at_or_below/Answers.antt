@@ -25,12 +25,10 @@ pub returns-then-at_or_below : goal.returns-then-at_or_below
 returns-then-at_or_below c =
     let first : figure_test (figure c.args.digits c.args.power) ≡ true = told c.args.digits c.args.power c.ranges.power true c.is_figure.ensures c.if-not-is_figure.false in
     let second : figure_test (figure c.args.limit_digits c.args.limit_power) ≡ true = told c.args.limit_digits c.args.limit_power c.ranges.limit_power true c.is_figure-2.ensures c.if-not-is_figure-2.false in
-    let order : c.at_or_below.result ≡ t → at_or_below (figure c.args.digits c.args.power) (figure c.args.limit_digits c.args.limit_power) ≡ t = told_order c.args.digits c.args.power c.args.limit_digits c.args.limit_power c.ranges.power c.ranges.limit_power t c.at_or_below.ensures e in
-    below _ _ first second (order true c.if-at_or_below.true)
+    below _ _ first second (told_order c.args.digits c.args.power c.args.limit_digits c.args.limit_power c.ranges.power c.ranges.limit_power true c.at_or_below.ensures c.if-at_or_below.true)
 
 pub returns-else-at_or_below : goal.returns-else-at_or_below
 returns-else-at_or_below c =
     let first : figure_test (figure c.args.digits c.args.power) ≡ true = told c.args.digits c.args.power c.ranges.power true c.is_figure.ensures c.if-not-is_figure.false in
     let second : figure_test (figure c.args.limit_digits c.args.limit_power) ≡ true = told c.args.limit_digits c.args.limit_power c.ranges.limit_power true c.is_figure-2.ensures c.if-not-is_figure-2.false in
-    let order : c.at_or_below.result ≡ t → at_or_below (figure c.args.digits c.args.power) (figure c.args.limit_digits c.args.limit_power) ≡ t = told_order c.args.digits c.args.power c.args.limit_digits c.args.limit_power c.ranges.power c.ranges.limit_power t c.at_or_below.ensures e in
-    above _ _ first second (order false c.if-at_or_below.false)
+    above _ _ first second (told_order c.args.digits c.args.power c.args.limit_digits c.args.limit_power c.ranges.power c.ranges.limit_power false c.at_or_below.ensures c.if-at_or_below.false)
