@@ -4,34 +4,36 @@
 
 ghost use Rattle.io.specs.Counts.{IsPrefixLen};
 
-use libc::{STDERR_FILENO, STDIN_FILENO, STDOUT_FILENO};
+use std::io;
+use std::io::Read;
 
 // What was read into a buffer: its first `len` bytes, and whether a read failed.
-#[derive(Drop)]
+#[derive(Clone, Copy)]
 struct Input {
     len: usize,
     failed: bool,
 }
 
-fn read_some(buffer: &mut [u8]) -> Input
+fn read_some<R: Read>(from: &mut R, buffer: &mut [u8]) -> Input
     ensures { IsPrefixLen result.len buffer.new }
 {
-    let got = libc::read(STDIN_FILENO, buffer);
-    let len = io::count(got, buffer);
-    Input {
-        len,
-        failed: got < 0,
+    match from.read(buffer) {
+        Ok(len) => Input { len, failed: false },
+        Err(_) => Input {
+            len: 0,
+            failed: true,
+        },
     }
 }
 
 // Reads until the buffer is full, the input ends or a read fails.
-fn read_input(buffer: &mut [u8]) -> Input
+fn read_input<R: Read>(from: &mut R, buffer: &mut [u8]) -> Input
     ensures { IsPrefixLen result.len buffer.new }
 {
     let mut len = 0;
     let mut failed = false;
     while len < buffer.len() {
-        let part = read_some(&mut buffer[len..]);
+        let part = read_some(from, &mut buffer[len..]);
         failed = part.failed;
         if part.len == 0 {
             break;
@@ -41,18 +43,18 @@ fn read_input(buffer: &mut [u8]) -> Input
     Input { len, failed }
 }
 
-fn main() {
+fn main(rt: HostRuntime) -> io::Result<()> {
     let mut bytes = text::program::input();
-    let input = read_input(&mut bytes);
+    let input = read_input(&mut rt.stdin(), &mut bytes);
     if input.failed {
-        io::write_all(STDERR_FILENO, b"report: standard input could not be read\n");
-        return;
+        return eprintln!(rt; "report: standard input could not be read");
     }
     let len = input.len;
     let answer = text::program::report(&bytes[..len]);
     let len = answer.len;
     let bytes = answer.bytes;
-    if !io::write_all(STDOUT_FILENO, &bytes[..len]) {
-        io::write_all(STDERR_FILENO, b"report: the answer could not be written\n");
+    if rt.write_all(&bytes[..len]).is_err() {
+        return eprintln!(rt; "report: the answer could not be written");
     }
+    Ok(())
 }

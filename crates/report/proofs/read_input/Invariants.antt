@@ -1,16 +1,9 @@
-use Prim.Native.Nat.{ℕ, ◌+◌, ◌-◌, ◌≤◌}
-use mathlib.Core.Path.{◌≡◌, refl, sym, ◌∙◌}
-use mathlib.Core.List.{List}
-use native.Mathlib.Nat.{le_of_eq}
-use native.Mathlib.Omega.{arith}
-use borrow.Author.Rules.{rules}
-use lib.ListN.{length, take, drop, length-drop}
-use lib.Seq.{length-take-le}
-use Rattle.io.proofs.Counting.{prefix_len_of_le}
+-- What was read so far lies within the buffer; the room that is left falls.
+use Rattle.std.proofs.Common.{length, ◌-◌, ◌≤◌}
 use Rattle.report.proofs.read_input.Given as goal
 
 abbrev pub invariant-loop-len : goal.invariant-loop-len
-invariant-loop-len l = (l.len ≤ length l.buffer) × (length l.buffer ≡ length l.initial.buffer)
+invariant-loop-len g l = l.len ≤ length l.buffer
 
 abbrev pub decreases-loop-len : goal.decreases-loop-len
-decreases-loop-len l = length l.buffer - l.len
+decreases-loop-len g l = length l.initial.buffer - l.len

@@ -1,8 +1,5 @@
-use native.Mathlib.Omega.{arith}
+-- The number of turns that are left falls.
 use Rattle.vectors.proofs.main.Given as goal
-
-abbrev pub invariant-loop-turns : goal.invariant-loop-turns
-invariant-loop-turns l = Unit {0}
 
 abbrev pub decreases-loop-turns : goal.decreases-loop-turns
 decreases-loop-turns l = l.turns
