@@ -1,6 +1,6 @@
 -- Document 02, Item 2: "A digit 1 shall mean that the figure equals its exact sum", of the answer to every list of words and every budget, and of
 -- that to a caller who lends rows. Assumes nothing.
-use mathlib.Core.Path.{◌≡◌, sym, ◌∙◌, ap, subst}
+use mathlib.Core.Path.{◌≡◌, sym, ◌∙◌, ap}
 use mathlib.Core.Bool.{Bool}
 use mathlib.Core.List.{List}
 use Prim.Native.Nat.{ℕ}
@@ -14,7 +14,7 @@ use Rattle.model.specs.Internal.Valid.{Valid}
 use Rattle.model.proofs.ReadValid.{read_valid}
 use Rattle.tree.specs.Tree.{Outcome, Visit, tree, paths, deaths, cuts, is_death, is_cut}
 use Rattle.tree.specs.Report.{Report, report_of, report_on, answer}
-use Rattle.tree.specs.Marks.{Marks, marks_of, marks_on, marks_with}
+use Rattle.tree.specs.Marks.{marks_of, marks_on, marks_with}
 use Rattle.tree.proofs.Ended.{InTree, paths_in_tree}
 use Rattle.tree.proofs.Answer.{answer_read, marks_granted}
 use Rattle.tree.proofs.RowAnswers.{answer_by_rows}

@@ -11,7 +11,7 @@ use lib.Dec.{T, leb, lit≤, nleb→lt}
 use mathlib.Core.Bool.{not}
 use lib.ListN.{length}
 use Rattle.fraction.specs.Fraction.{Fraction, ◌≤ᶠ◌, ◌≈ᶠ◌, whole, ◌-ᶠ◌}
-use Rattle.fraction.proofs.Ratio.{Ratio, ◌≈◌, ofℕ, ◌⊕◌, ◌⊗◌, ◌⊖◌, ≈_refl, ≈_sym, ≈_trans, ⊕_cong, ⊗_cong, ⊖_cong, ⊗_zero, num_zero, ≼_antisym}
+use Rattle.fraction.proofs.Ratio.{Ratio, ◌≈◌, ofℕ, ◌⊕◌, ◌⊗◌, ◌⊖◌, ≈_sym, ≈_trans, ⊕_cong, ⊗_cong, ⊖_cong, ⊗_zero, num_zero, ≼_antisym}
 use Rattle.fraction.proofs.Inverse.{inv, inv_cong}
 use Rattle.fraction.proofs.PowersOfTen.{ten_nat}
 use Rattle.fraction.proofs.Laws.{≤ᶠ_or, ≈ᶠ-≤, ≈ᶠ_sym}
@@ -40,7 +40,7 @@ use Rattle.tree.specs.Report.{lower_total}
 use Rattle.tree.proofs.Positive.{ValidSteps, exits_valid}
 use Rattle.tree.proofs.Ranges.{class1_count-≤}
 use Rattle.tree.proofs.Least.{grains_high}
-use Rattle.accuracy.specs.Bounds.{exact_lower_with, exact_lower}
+use Rattle.accuracy.specs.Bounds.{exact_lower}
 use Rattle.accuracy.specs.Rule.{sum_of, exact_lower_sum}
 use Rattle.accuracy.proofs.Natural.{◌is◌, is_whole, is_plus}
 use Rattle.accuracy.proofs.Folds.{sum, fold_sum}
@@ -52,7 +52,7 @@ use Rattle.accuracy.proofs.ExactLower.{last_valueᴺ, lowerᴺ, exact_lower_is}
 use Rattle.accuracy.proofs.RoundedStates.{figure_is, share_figure_is}
 use Rattle.accuracy.proofs.PathUpper.{short_count}
 use Rattle.figure.specs.Losses.{keeps, times_keeps, plus_keeps, minus_keeps, divided_keeps, whole_keeps, total_keeps, to_nine_keeps}
-use Rattle.tree.specs.Marks.{time_squared_kept, second_moment_kept, sum_kept, rate_kept_by, mean_down_kept_by, moment_kept_by, rate_sum_kept}
+use Rattle.tree.specs.Marks.{time_squared_kept, second_moment_kept, rate_kept_by, mean_down_kept_by, moment_kept_by, rate_sum_kept}
 use Rattle.tree.specs.Marks.{mean_down_kept, moment_sum_kept, grains_kept, all_grains_kept}
 use Rattle.tree.specs.Marks.{class2_loss_kept, class3_loss_kept}
 use Rattle.tree.specs.Marks.{class2_factor_kept, class3_factor_kept, lower_step_kept, lower_product_kept, rates_kept_by, path_rates_kept}

@@ -3,19 +3,19 @@
 use mathlib.Core.Path.{◌≡◌, sym, subst}
 use mathlib.Core.Bool.{Bool, true, ◌&&◌}
 use mathlib.Core.List.{List, [], ◌∷◌, foldl}
-use Prim.Native.Nat.{ℕ, suc, ◌+◌, ◌^◌, ◌≤◌, ◌<◌}
+use Prim.Native.Nat.{ℕ, suc, ◌^◌, ◌≤◌, ◌<◌}
 use native.Mathlib.Omega.{arith}
 use lib.Dec.{lit≤}
 use lib.ListN.{length}
-use Rattle.fraction.specs.Fraction.{Fraction, ◌≤ᶠ◌, ◌≈ᶠ◌, whole, ◌+ᶠ◌, ◌*ᶠ◌, ◌/ᶠ◌}
-use Rattle.fraction.proofs.Ratio.{Ratio, ◌≈◌, ofℕ, ◌⊕◌, ◌⊗◌, ≈_refl, ≈_sym, ≈_trans, ⊕_cong, ⊗_cong, ⊗_assoc, ⊗_zero, zero-≼}
+use Rattle.fraction.specs.Fraction.{Fraction, ◌≤ᶠ◌, ◌≈ᶠ◌, whole}
+use Rattle.fraction.proofs.Ratio.{Ratio, ◌≈◌, ofℕ, ◌⊕◌, ◌⊗◌, ≈_sym, ≈_trans, ⊕_cong, ⊗_cong, ⊗_assoc, ⊗_zero, zero-≼}
 use Rattle.fraction.proofs.Inverse.{inv, inv_cong}
 use Rattle.fraction.proofs.Ratio.{≼_antisym}
 use Rattle.fraction.proofs.Laws.{≈ᶠ-≤, ≈ᶠ_sym}
 use Rattle.fraction.proofs.Signed.{signed, signed_whole, signed-≼, signed-≈}
 use Rattle.figure.specs.declared.Figure.{Figure}
 use Rattle.figure.specs.Rounding.{none, value, up}
-use Rattle.figure.specs.Operations.{times_up, plus_up, divided_up, of_whole, total_up, sum_to_nine_up}
+use Rattle.figure.specs.Operations.{times_up, plus_up, divided_up, total_up, sum_to_nine_up}
 use Rattle.figure.proofs.Value.{val, value_is, below_val, above_val}
 use Rattle.figure.proofs.Operations.{value_times, value_plus, value_divided}
 use Rattle.figure.proofs.Exact.{natural_of_whole}
@@ -23,7 +23,7 @@ use Rattle.word.specs.Model.{Manner, slow, fast, Transition, Model, exits}
 use Rattle.word.specs.Internal.Lists.{Each}
 use Rattle.model.specs.Internal.Valid.{ValidManner, Valid}
 use Rattle.word.proofs.Members.{both}
-use Rattle.tree.specs.Paths.{Path, Class, class1, class2, class3, class, class1_count, counts_1}
+use Rattle.tree.specs.Paths.{Path, Class, class1, class2, class3, class, class1_count}
 use Rattle.tree.specs.States.{figure_of, mission_time, sum_over, add_mean_up, mean_up}
 use Rattle.tree.specs.Upper.{share, upper_step, upper}
 use Rattle.tree.specs.Report.{upper_total}
@@ -31,7 +31,7 @@ use Rattle.tree.proofs.Positive.{ValidSteps, exits_valid}
 use Rattle.tree.proofs.Ranges.{class1_count-≤}
 use Rattle.accuracy.specs.Bounds.{exact_upper}
 use Rattle.accuracy.specs.Rule.{sum_of, exact_upper_sum}
-use Rattle.accuracy.proofs.Natural.{◌is◌, is-≈, is_whole, is_plus}
+use Rattle.accuracy.proofs.Natural.{◌is◌, is_whole, is_plus}
 use Rattle.accuracy.proofs.Folds.{sum, fold_sum}
 use Rattle.accuracy.proofs.ExactStates.{timeᴺ, shareᴺ, meanᴺ, add_meanᴺ}
 use Rattle.accuracy.proofs.ExactSteps.{stepᴺ, steppedᴺ}

@@ -1,9 +1,9 @@
 -- The answer to a caller who lends rows, and the table of the rows to be filled, as they come about: a refusal before the walk, 13, or a report.
 -- Assumes nothing.
 use Prim.Native.Nat.{ℕ, ◌+◌, ◌≤◌, ◌<◌}
-use mathlib.Core.Path.{◌≡◌, refl, sym, ap, ap₂, ◌∙◌, subst}
+use mathlib.Core.Path.{◌≡◌, refl, sym, ap, ◌∙◌, subst}
 use mathlib.Core.Bool.{true, false}
-use mathlib.Core.List.{List, []}
+use mathlib.Core.List.{List}
 use native.Mathlib.Omega.{arith}
 use native.Mathlib.Nat.{le_trans}
 use lib.Dec.{ltb, lit≤}
@@ -16,7 +16,7 @@ use Rattle.figure.proofs.Gathered.{gathered_more}
 use Rattle.word.specs.declared.Refusal.{Refusal}
 use Rattle.word.specs.declared.Refusal.TheVariants.{TooFewRows, OverBudget}
 use Rattle.word.specs.Refusal.{number, place}
-use Rattle.word.specs.Model.{Net, Model}
+use Rattle.word.specs.Model.{Model}
 use Rattle.word.specs.Answer as answers
 use Rattle.word.proofs.Members.{each_lookup, each_of_members}
 use Rattle.model.specs.Reading as reading
@@ -34,13 +34,12 @@ use Rattle.tree.proofs.RowStates.{row_states_few, row_states_range}
 use Rattle.tree.proofs.RowAnswers.{RowsRefused, rows_read_refused, rows_read_few, rows_read_granted, rows_of_length, rows_of_over_at, rows_of_within_at}
 use Rattle.path.specs.declared.counts.Counts.{Counts}
 use Rattle.rows.specs.Internal.Table.{row_count, row_state, totals_in, NamesKept, TableGathered}
-use Rattle.rows.specs.Internal.Filling.{row_in, RowFits, Fits, Has}
+use Rattle.rows.specs.Internal.Filling.{row_in, Fits, Has}
 use Rattle.rows.specs.Internal.Names.{Named}
 use Rattle.rows.proofs.RowTotals.{empty_rows}
 use Rattle.bounds.specs.declared.Report.{Report}
-use Rattle.bounds.specs.declared.Answer.{Answer}
 use Rattle.bounds.specs.declared.Answer.TheVariants.{Report as reported, Refused}
-use Rattle.bounds.specs.Answers.{answer_of, report_of, marks_of}
+use Rattle.bounds.specs.Answers.{report_of, marks_of}
 use Rattle.bounds.specs.Internal.Measured.{Measured}
 use Rattle.bounds.specs.Internal.Walk.{totals_of, kept_of, EndsOver, KeptCounted}
 

@@ -1,6 +1,6 @@
 -- From the answer and the table of rows to all that the entry point that is lent rows promises. Assumes nothing.
 use Prim.Native.Nat.{ℕ}
-use mathlib.Core.Path.{◌≡◌, sym, ap, ◌∙◌, subst}
+use mathlib.Core.Path.{◌≡◌, sym, ap, ◌∙◌}
 use mathlib.Core.List.{List}
 use native.Mathlib.Omega.{arith}
 use lib.ListN.{length, get_or}
@@ -10,7 +10,6 @@ use Rattle.tree.specs.Rows.{answer_with_rows, filled_rows, rows_after}
 use Rattle.tree.proofs.RowAnswers.{answer_by_rows, few_by_rows, rows_read_few}
 use Rattle.tree.proofs.RowTables.{rows_refused_over, rows_over_refused, rows_after_length, rows_after_beyond, rows_after_unchanged, rows_after_zero}
 use Rattle.tree.specs.Marks.{marks_with}
-use Rattle.accuracy.specs.Rule.{AccuracyRule}
 use Rattle.accuracy.specs.RowRule.{RowRule}
 use Rattle.accuracy.proofs.Theorem.{accuracy_theorem}
 use Rattle.accuracy.proofs.Rows.{row_theorem}

@@ -1,6 +1,5 @@
 -- The definitions agree with the products that were worked out by other hands: by computing them. Assumes nothing.
 use mathlib.Core.Path.{refl}
-use mathlib.Core.List.{map}
 use Rattle.fraction.specs.Fraction.{whole, ten, at_most, ◌*ᶠ◌}
 use Rattle.figure.specs.Rounding.{value, digits_from, digit_count, dividend, divisor, floor, ceiling, lowest_power, up_from, down_from, up, down}
 use Rattle.figure.specs.Operations.{times_up, times_down}

@@ -1,13 +1,13 @@
 -- A rounding and whether the other one comes to the same are what the form that tells promises: one law over the direction and the width. Assumes nothing.
 use Prim.Native.Nat.{ℕ, suc}
-use mathlib.Core.Path.{◌≡◌, refl, sym, ◌∙◌, ap₂}
+use mathlib.Core.Path.{◌≡◌, sym, ◌∙◌}
 use mathlib.Core.Bool.{Bool, true, false, not}
 use Rattle.fraction.specs.Fraction.{Fraction}
 use Rattle.figure.specs.declared.Figure.{Figure}
 use Rattle.figure.specs.declared.Rounded.{Rounded}
 use Rattle.figure.specs.Losses.{keeps, told}
 use Rattle.figure.specs.Internal.Steps.{rounded}
-use Rattle.figure.specs.Internal.Telling.{Same, Told}
+use Rattle.figure.specs.Internal.Telling.{Told}
 use Rattle.figure.proofs.Losses.{both_ways, both_agree, agree_keeps}
 
 module _ (w : ℕ) (x : Fraction) where

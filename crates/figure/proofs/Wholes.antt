@@ -1,6 +1,6 @@
 -- The code's rounding of a whole number times a power of ten to nine digits is the one that is meant. Assumes nothing.
 use mathlib.Core.Path.{◌≡◌, sym, ◌∙◌, ap, ap₂}
-use mathlib.Core.Bool.{Bool, true, false}
+use mathlib.Core.Bool.{Bool}
 use Prim.Native.Nat.{ℕ, ◌+◌, ◌-◌, ◌*◌, ◌/◌, ◌^◌, ◌≤◌, ◌<◌}
 use native.Mathlib.Nat.{mul-le-mul_right, mul-lt-mul_of_pos_right, div-lt_iff_lt-mul}
 use native.Mathlib.Omega.{arith}
@@ -15,7 +15,7 @@ use Rattle.fraction.proofs.Ratio.{≈_refl, ≈_sym}
 use Rattle.fraction.proofs.Signed.{signed_whole, signed_ratio}
 use Rattle.figure.specs.declared.Figure.{Figure}
 use Rattle.figure.specs.declared.division.Part.{Part}
-use Rattle.figure.specs.Rounding.{figure, none, value, is_whole, up, down}
+use Rattle.figure.specs.Rounding.{figure, none, value, is_whole}
 use Rattle.figure.specs.Internal.Steps.{rounded, part, directed, Count}
 use Rattle.figure.proofs.Scale.{pow_pos, ten_units, ten_shift}
 use Rattle.figure.proofs.Value.{value_is}

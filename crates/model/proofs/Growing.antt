@@ -11,7 +11,7 @@ use lib.Dec.{ltb, leb}
 use borrow.Author.Tests.{ltb-false, leb-false, eqb-false, eq-eqb}
 use Rattle.word.specs.declared.Quantity.{Quantity}
 use Rattle.word.specs.Model.{Manner, Transition, Model, is_fast, any, exits_in, exits}
-use Rattle.word.specs.Words.{kind, states_field, start_field, step_limit_field, entry_limit_field, from_field, to_field, scale_field}
+use Rattle.word.specs.Words.{states_field, start_field, step_limit_field, entry_limit_field, from_field, to_field, scale_field}
 use Rattle.word.specs.Words.{coefficient_field, quantity}
 use Rattle.word.specs.Faults.{Fault, outside, head_faults, quantity_faults, caps_faults, same_transition, transition_faults}
 use Rattle.word.specs.Internal.Lists.{Each}

@@ -2,7 +2,7 @@
 use mathlib.Core.List.{List, [], ◌∷◌, map}
 use native.Mathlib.Omega.{plit}
 use lib.Dec.{lit≤}
-use Rattle.fraction.specs.Fraction.{Fraction, ◌≤ᶠ◌, whole, ◌-ᶠ◌, ◌*ᶠ◌}
+use Rattle.fraction.specs.Fraction.{Fraction, ◌≤ᶠ◌, whole, ◌-ᶠ◌}
 use Rattle.fraction.proofs.SignedCertificate.{var, lit, ◌⊟◌, order, prove_signed}
 use Rattle.fraction.proofs.Laws.{≤ᶠ_refl, ≤ᶠ_trans, -ᶠ_mono, *ᶠ_mono, *ᶠ_nonneg, whole-≤}
 use Rattle.word.specs.Internal.Lists.{Each}

@@ -8,7 +8,7 @@ use native.Mathlib.Nat.{add_comm}
 use native.Mathlib.Omega.{arith}
 use Rattle.figure.specs.declared.Figure.{Figure}
 use Rattle.figure.specs.declared.Rounded.{Rounded}
-use Rattle.figure.specs.Rounding.{none, down}
+use Rattle.figure.specs.Rounding.{none}
 use Rattle.figure.specs.Operations.{times_up, times_down, plus_up, divided_up, of_whole}
 use Rattle.figure.specs.Losses.{told, times_keeps, plus_keeps}
 use Rattle.word.specs.Model.{Transition, Net}

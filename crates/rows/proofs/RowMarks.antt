@@ -6,12 +6,10 @@ use mathlib.Core.Bool.{Bool, true, false, ◌&&◌}
 use mathlib.Core.List.{List}
 use native.Mathlib.Omega.{arith}
 use lib.Dec.{eqb}
-use lib.ListN.{length, get_or, set, length-set}
+use lib.ListN.{length, set, length-set}
 use lib.Seq.{get_or-set_same, get_or-set_other}
-use Rattle.figure.specs.declared.Figure.{Figure}
-use Rattle.tree.specs.Marks.{Marks}
 use Rattle.tree.specs.Internal.Tally.{all_kept}
-use Rattle.rows.specs.Internal.Table.{total_of, total_in, totals_in, kept_in, marks_in, MarkPlace, MarkNoted, NamesKept, NoTotals, TotalOf, TableGathered}
+use Rattle.rows.specs.Internal.Table.{total_of, total_in, totals_in, kept_in, marks_in, MarkPlace, MarkNoted, NamesKept, NoTotals, TableGathered}
 
 -- ---- one mark
 

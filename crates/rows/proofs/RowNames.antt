@@ -1,20 +1,20 @@
 -- The states that have rows, as the code finds them, are the definition's. Assumes nothing.
-use Prim.Native.Nat.{ℕ, zero, suc, ◌+◌, ◌*◌, ◌≤◌, ◌<◌}
-use mathlib.Core.Path.{◌≡◌, refl, sym, ap, ap₂, ◌∙◌, subst}
+use Prim.Native.Nat.{ℕ, zero, suc, ◌+◌, ◌≤◌, ◌<◌}
+use mathlib.Core.Path.{◌≡◌, refl, sym, ap, ap₂, ◌∙◌}
 use mathlib.Core.Bool.{Bool, true, false, not, ◌&&◌, ◌||◌}
 use mathlib.Core.List.{List, [], ◌∷◌, ◌++◌}
 use native.Mathlib.Omega.{arith}
-use native.Mathlib.Nat.{lt_of_not-le, add-suc}
+use native.Mathlib.Nat.{lt_of_not-le}
 use native.Mathlib.Decide.{dec_le}
 use lib.Dec.{eqb}
 use lib.ListN.{length, get_or, set, replicate, length-set, length-append, get_or-append}
 use lib.Seq.{get_or-set_same, get_or-set_other, get_or-append_seam}
 use borrow.Author.Tests.{eq-eqb, ne_eqb}
-use Rattle.word.specs.Model.{Transition, Net, Model, one_if, is_empty, any, numbers_from, is_named, only, exits}
+use Rattle.word.specs.Model.{Transition, Net, one_if, any, numbers_from, is_named, only, exits}
 use Rattle.word.proofs.Members.{is_empty_length, only_append, numbers_last}
 use Rattle.word.proofs.Tests.{flag_test}
 use Rattle.word.specs.Words.{to_field}
-use Rattle.model.specs.Index.{no_transition, transition, exit_count}
+use Rattle.model.specs.Index.{no_transition, transition}
 use Rattle.model.proofs.Slots.{word, stands_to}
 use Rattle.tables.proofs.Classes.{step_valid}
 use Rattle.tree.specs.Rows.{has_row, row_states}

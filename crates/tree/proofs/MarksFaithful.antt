@@ -1,15 +1,11 @@
 -- The definitions of the two digits are what document 02 says of them. Assumes nothing.
-use Prim.Native.Nat.{ℕ}
 use mathlib.Core.Path.{◌≡◌, refl, ap, ◌∙◌}
 use mathlib.Core.Bool.{true, ◌&&◌}
-use mathlib.Core.List.{List, []}
+use mathlib.Core.List.{[]}
 use Rattle.fraction.specs.Fraction.{whole, ten, at_most, ◌*ᶠ◌}
 use Rattle.figure.specs.Rounding.{value}
 use Rattle.figure.specs.Losses.{keeps, to_nine_keeps}
 use Rattle.word.specs.Model.{Net}
-use Rattle.word.specs.Answer.{Answer}
-use Rattle.tree.specs.Paths.{Path}
-use Rattle.tree.specs.Tree.{Visit, deaths}
 use Rattle.tree.specs.Report.{lower_total}
 use Rattle.tree.specs.Marks.{total_kept, lower_total_kept, marks_of, marks_on, marks_with}
 use Rattle.tree.specs.MarksFaithful.{RefusedMarks, RefusedRowMarks, NoDeathKeeps, CutsNotInLower, FaithfulMarks}

@@ -1,7 +1,7 @@
 -- The marks that a walk keeps, one visit at a time, are the report's. Assumes nothing.
 use mathlib.Core.Path.{◌≡◌, refl, ap, ap₂, ◌∙◌}
 use mathlib.Core.Bool.{Bool, true, false, ◌&&◌}
-use mathlib.Core.List.{List, [], ◌∷◌, foldl}
+use mathlib.Core.List.{List, [], ◌∷◌}
 use Rattle.figure.specs.Operations.{total_up, total_down}
 use Rattle.figure.specs.Losses.{total_keeps, to_nine_keeps, sum_to_nine_keeps}
 use Rattle.word.specs.Model.{Net}

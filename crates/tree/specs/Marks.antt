@@ -3,7 +3,7 @@
 use Rattle.std.specs.Prelude.{ℕ, ◌+◌, ◌^◌, Bool, true, false, ◌&&◌, List, [], ◌∷◌, leb, pos}
 use Rattle.figure.specs.declared.Figure.{Figure}
 use Rattle.figure.specs.Rounding.{none, up, down}
-use Rattle.figure.specs.Operations.{times_up, times_down, plus_up, minus_down, divided_up, divided_down, times_ten, of_whole, total_up, total_down}
+use Rattle.figure.specs.Operations.{times_up, times_down, minus_down, divided_up, times_ten, of_whole, total_up, total_down}
 use Rattle.figure.specs.Losses.{keeps, times_keeps, plus_keeps, minus_keeps, divided_keeps, whole_keeps, total_keeps, to_nine_keeps, sum_to_nine_keeps}
 use Rattle.word.specs.declared.Quantity.{Quantity}
 use Rattle.word.specs.Model.{Manner, slow, fast, Transition, Net, Model, exits}

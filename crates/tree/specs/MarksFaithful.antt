@@ -4,7 +4,7 @@
 use Rattle.std.specs.Prelude.{ℕ, ◌≡◌, true, false, List, []}
 use Rattle.word.specs.Model.{Net}
 use Rattle.word.specs.Answer.{Answer}
-use Rattle.tree.specs.Tree.{Visit, deaths, cuts}
+use Rattle.tree.specs.Tree.{Visit, deaths}
 use Rattle.tree.specs.Report.{answer}
 use Rattle.tree.specs.Rows.{answer_with_rows}
 use Rattle.tree.specs.Marks.{marks_on, marks_with}

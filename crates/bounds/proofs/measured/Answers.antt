@@ -2,7 +2,6 @@
 -- or within the budget. Assumes nothing.
 use native.Mathlib.Omega.{arith}
 use native.Mathlib.Nat.{le_trans}
-use borrow.Author.Rules.{rules}
 use borrow.Author.Tests.{lt-ltb, le-ltb}
 use Rattle.bounds.proofs.WalkBegin.{accepts_of, refuses_of, reads_described, accepted_indexes, accepted_summary, accepted_budget}
 use Rattle.bounds.proofs.RowsMeasured.{table_most, measured_refused, measured_few, measured_over, measured_report}

@@ -3,7 +3,6 @@
 use mathlib.Core.Path.{ap, ap₂, ◌∙◌}
 use mathlib.Core.Bool.{◌&&◌}
 use lib.Dec.{lit≤}
-use borrow.Author.Rules.{rules}
 use Rattle.figure.specs.Operations.{to_nine_down, to_nine_up, sum_to_nine_up}
 use Rattle.figure.specs.Losses.{to_nine_keeps, sum_to_nine_keeps}
 use Rattle.tree.specs.Internal.Tally.{finish, finish_marks}

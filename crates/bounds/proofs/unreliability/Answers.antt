@@ -1,7 +1,6 @@
 -- `unreliability` meets its contract: the answer to a caller who lends 1,000 rows is that given without rows. Assumes nothing.
 use mathlib.Core.Path.{◌∙◌, ap}
 use native.Mathlib.Nat.{le_refl}
-use borrow.Author.Rules.{rules}
 use Rattle.tree.specs.Marks.{marks_with}
 use Rattle.tree.proofs.RowAnswers.{thousand_rows_enough}
 use Rattle.bounds.proofs.AnswerPromise.{promise}

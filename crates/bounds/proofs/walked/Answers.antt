@@ -1,5 +1,4 @@
 -- `walked` meets its contract: the table is filled with the model's values, and the walk from the start goes over the cut tree. Assumes nothing.
-use borrow.Author.Rules.{rules}
 use Rattle.bounds.proofs.WalkBegin.{start_below, time_scale, prune_scale, walk_ready, walk_tree}
 use Rattle.bounds.proofs.walked.Goals as goal
 

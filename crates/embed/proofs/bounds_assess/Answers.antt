@@ -1,5 +1,4 @@
 -- `bounds_assess` meets its contract: the numbers are those of the answer. Assumes nothing.
-use borrow.Author.Rules.{rules}
 use Rattle.embed.proofs.Exports.{assessed}
 use Rattle.embed.proofs.bounds_assess.Goals as goal
 

@@ -1,10 +1,7 @@
 -- `bounds_at_or_below` meets its contract: what is no figure is told apart, and two figures are compared. Assumes nothing.
 use mathlib.Core.Path.{◌≡◌}
-use mathlib.Core.Bool.{Bool, true, false}
-use borrow.Author.Rules.{rules}
-use borrow.Author.Tests.{not-true, not-false}
+use mathlib.Core.Bool.{true, false}
 use Rattle.figure.specs.Rounding.{figure}
-use Rattle.figure.specs.Operations.{at_or_below}
 use Rattle.figure.specs.Tested.{figure_test}
 use Rattle.embed.proofs.Compared.{told, told_figure, told_order, no_first, no_second, below, above}
 use Rattle.embed.proofs.bounds_at_or_below.Goals as goal

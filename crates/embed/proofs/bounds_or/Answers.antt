@@ -1,6 +1,5 @@
 -- `bounds_or` meets its contract: the numbers are those of the combination. Assumes nothing.
 use mathlib.Core.Path.{refl}
-use borrow.Author.Rules.{rules}
 use Rattle.embed.proofs.Given.{or_answered}
 use Rattle.embed.proofs.bounds_or.Goals as goal
 

@@ -1,5 +1,4 @@
 -- `bounds_text` meets its contract: the text is that of the answer. Assumes nothing.
-use borrow.Author.Rules.{rules}
 use Rattle.embed.proofs.bounds_text.Goals as goal
 
 pub returns : goal.returns

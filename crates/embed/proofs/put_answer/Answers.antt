@@ -1,7 +1,6 @@
 -- `put_answer` meets its contract, by cases of the answer. Assumes nothing.
 use mathlib.Core.Path.{refl, ap}
 use mathlib.Core.List.{[], ◌∷◌}
-use borrow.Author.Rules.{rules}
 use Rattle.embed.proofs.put_answer.Goals as goal
 
 pub returns-in-Refused : goal.returns-in-Refused

@@ -1,7 +1,6 @@
 -- `put_report` meets its contract: the marks are put as numbers, and the powers handed on as the 32-bit numbers that they are. Assumes nothing.
 use mathlib.Core.Path.{ap₂}
 use mathlib.Core.List.{[], ◌∷◌}
-use borrow.Author.Rules.{rules}
 use native.Mathlib.Omega.{arith}
 use mir.Facts.{to_z-of_z}
 use mir.Syntax.{w32}

@@ -3,7 +3,6 @@ use mathlib.Core.Path.{refl}
 use Rattle.model.specs.Reasons.{Called}
 use Rattle.word.proofs.Tests.{below_test, above_test}
 use Rattle.model.proofs.Refusals.{read_too_long, read_bad_budget, read_bad_word}
-use borrow.Author.Rules.{rules}
 use Rattle.model.proofs.read.Goals as goal
 
 pub returns-then-words-gt-MOST_WORDS : goal.returns-then-words-gt-MOST_WORDS

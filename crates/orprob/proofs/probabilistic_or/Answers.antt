@@ -1,6 +1,5 @@
 -- `probabilistic_or` meets its contract. Assumes nothing.
 use native.Mathlib.Omega.{arith}
-use borrow.Author.Rules.{rules}
 use Rattle.orprob.proofs.Promising.{no_pairs, too_many, one_wrong, all_right}
 use Rattle.orprob.proofs.probabilistic_or.Goals as goal
 

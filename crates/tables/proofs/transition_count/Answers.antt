@@ -1,12 +1,11 @@
 -- `transition_count` meets its contract: the loop's total is the sum up to s. Assumes nothing.
 use mathlib.Core.Path.{◌≡◌, refl, sym, ap, ap₂, ◌∙◌}
-use Prim.Native.Nat.{ℕ, ◌+◌, ◌*◌, ◌-◌, ◌≤◌}
+use Prim.Native.Nat.{ℕ, ◌+◌}
 use native.Mathlib.Omega.{arith}
 use native.Mathlib.Nat.{le_antisymm}
 use native.Mathlib.Numerals.{add-one}
 use mathlib.Core.List.{List}
 use Rattle.model.specs.Index.{exit_count}
-use borrow.Author.Rules.{rules}
 use Rattle.tables.specs.Internal.Described.{exit_total}
 use Rattle.tables.proofs.transition_count.Goals as goal
 

@@ -1,7 +1,6 @@
 -- `lower_holds` meets its contract. Assumes nothing.
 use mathlib.Core.Path.{ap, ap₂, ◌∙◌}
 use mathlib.Core.Bool.{◌&&◌}
-use borrow.Author.Rules.{rules}
 use Rattle.bounds.proofs.marks.lower_holds.Goals as goal
 
 pub returns : goal.returns

@@ -1,7 +1,6 @@
 -- `mark_lower` meets its contract: the path is looked at while the mark can still be 1. Assumes nothing.
 use mathlib.Core.Path.{sym, ap, ◌∙◌}
 use mathlib.Core.Bool.{◌&&◌}
-use borrow.Author.Rules.{rules}
 use lib.Dec.{lit≤}
 use Rattle.figure.specs.Losses.{total_keeps}
 use Rattle.figure.proofs.Sized.{sized-≤}

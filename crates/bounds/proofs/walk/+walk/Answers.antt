@@ -1,9 +1,8 @@
 -- `walk` meets its contract. The steps that the path may still take fall at each call; the loop keeps, at each exit, that the totals so far with
 -- the visits still to make come to the totals of all. Assumes nothing.
-use Prim.Native.Nat.{ℕ, ◌<◌, ◌≤◌, ◌-◌}
+use Prim.Native.Nat.{◌<◌}
 use mathlib.Core.Path.{◌≡◌, refl, sym, ap, ◌∙◌}
 use mathlib.Core.Bool.{true, false}
-use mathlib.Core.Logic.{⊎_elim}
 use native.Mathlib.Omega.{arith}
 use lib.ListN.{length}
 use borrow.Author.Rules.{rules}
@@ -20,7 +19,7 @@ use Rattle.rows.proofs.RowTotals.{names_then}
 use Rattle.rows.proofs.RowMarks.{upper_place}
 use Rattle.bounds.specs.Internal.Marks.{asked_marks, Marked}
 use Rattle.bounds.proofs.WalkMarks.{closed_marked, upper_lost, marked_gathered, marked_at}
-use Rattle.bounds.proofs.WalkLoop.{Held, held, AtExit, exit_same, step_counted, state_small, room, ones_few, exit_ready, loop_start, steps_few, loop_end, loop_over, ends_steps}
+use Rattle.bounds.proofs.WalkLoop.{Held, held, exit_same, step_counted, state_small, room, ones_few, exit_ready, loop_start, steps_few, loop_end, loop_over, ends_steps}
 use Rattle.bounds.proofs.WalkTurns.{Turn, Visited, judged_there, path_there, there_small, judge_figures, last_step, count_figures, note_figures, death_noted, step_noted, cut_noted}
 use Rattle.bounds.proofs.WalkTurns.{visit_ended, before_fits, ready_there, visit_over, visit_back}
 use Rattle.bounds.proofs.walk.+walk.Goals as goal

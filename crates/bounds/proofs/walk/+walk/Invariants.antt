@@ -1,26 +1,7 @@
-use Prim.Native.Nat.{ℕ, ◌<◌, ◌≤◌, ◌-◌}
-use mathlib.Core.Path.{◌≡◌, refl, sym, ap, ◌∙◌}
-use mathlib.Core.Bool.{true, false}
-use mathlib.Core.Logic.{⊎_elim}
-use native.Mathlib.Omega.{arith}
-use lib.ListN.{length}
-use borrow.Author.Rules.{rules}
-use Rattle.model.specs.Index.{exit_count}
-use Rattle.tree.specs.Tree.{is_continued}
-use Rattle.tree.proofs.Outcomes.{is_death_true}
-use Rattle.figure.specs.Rounding.{none}
-use Rattle.tree.proofs.Ranges.{none_sized}
-use Rattle.path.specs.Internal.Lent.{Lent, lent, net_in}
-use Rattle.path.specs.Internal.Outcomes.{outcome_of}
-use Rattle.bounds.specs.Internal.Walk.{Asked, asked}
-use Rattle.path.proofs.DeathStems.{last_lower}
-use Rattle.rows.proofs.RowTotals.{names_then}
-use Rattle.rows.proofs.RowMarks.{upper_place}
-use Rattle.bounds.specs.Internal.Marks.{asked_marks, Marked}
-use Rattle.bounds.proofs.WalkMarks.{closed_marked, upper_lost, marked_gathered, marked_at}
-use Rattle.bounds.proofs.WalkLoop.{Held, held, AtExit, exit_same, step_counted, state_small, room, ones_few, exit_ready, loop_start, steps_few, loop_end, loop_over, ends_steps}
-use Rattle.bounds.proofs.WalkTurns.{Turn, Visited, judged_there, path_there, there_small, judge_figures, last_step, count_figures, note_figures, death_noted, step_noted, cut_noted}
-use Rattle.bounds.proofs.WalkTurns.{visit_ended, before_fits, ready_there, visit_over, visit_back}
+use Prim.Native.Nat.{◌≤◌, ◌-◌}
+use Rattle.path.specs.Internal.Lent.{lent}
+use Rattle.bounds.specs.Internal.Walk.{asked}
+use Rattle.bounds.proofs.WalkLoop.{held, AtExit}
 use Rattle.bounds.proofs.walk.+walk.Given as goal
 
 abbrev pub invariant-loop-i : goal.invariant-loop-i

@@ -1,8 +1,7 @@
 -- `pairs_given` meets its contract. The loop's invariant: the pairs before i are those given. Assumes nothing.
-use Prim.Native.Nat.{◌-◌, ◌≤◌}
 use native.Mathlib.Omega.{arith}
 use borrow.Author.Rules.{rules}
-use Rattle.embed.proofs.Given.{Filled, filled_none, filled_more, filled_all}
+use Rattle.embed.proofs.Given.{filled_none, filled_more, filled_all}
 use Rattle.embed.proofs.subsystems.pairs_given.Goals as goal
 
 pub loop-i-init : goal.loop-i-init

@@ -1,7 +1,5 @@
 use Prim.Native.Nat.{◌-◌, ◌≤◌}
-use native.Mathlib.Omega.{arith}
-use borrow.Author.Rules.{rules}
-use Rattle.embed.proofs.Given.{Filled, filled_none, filled_more, filled_all}
+use Rattle.embed.proofs.Given.{Filled}
 use Rattle.embed.proofs.subsystems.pairs_given.Given as goal
 
 abbrev pub invariant-loop-i : goal.invariant-loop-i

@@ -1,6 +1,5 @@
 -- `put_combined` meets its contract, by cases of the combination. Assumes nothing.
 use mathlib.Core.Path.{refl}
-use borrow.Author.Rules.{rules}
 use Rattle.embed.specs.Subsystems.{or_values}
 use Rattle.embed.proofs.subsystems.put_combined.Goals as goal
 

@@ -1,5 +1,4 @@
 -- `Figure::divided_down` meets its contract. Assumes nothing.
-use borrow.Author.Rules.{rules}
 use Rattle.figure.specs.Operations.{divided_down}
 use Rattle.figure.proofs.Figure.divided_down.Goals as goal
 

@@ -1,6 +1,5 @@
 -- `Figure::divided_down_telling` meets its contract. Assumes nothing.
 use mathlib.Core.Bool.{false}
-use borrow.Author.Rules.{rules}
 use Rattle.figure.specs.Operations.{divided_down}
 use Rattle.figure.specs.Losses.{divided_keeps}
 use Rattle.figure.proofs.Tellings.{told_by}

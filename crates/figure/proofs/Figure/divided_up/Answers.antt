@@ -1,5 +1,4 @@
 -- `Figure::divided_up` meets its contract. Assumes nothing.
-use borrow.Author.Rules.{rules}
 use Rattle.figure.specs.Operations.{divided_up}
 use Rattle.figure.proofs.Figure.divided_up.Goals as goal
 

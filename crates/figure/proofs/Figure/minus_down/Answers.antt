@@ -1,5 +1,4 @@
 -- `Figure::minus_down` meets its contract. Assumes nothing.
-use borrow.Author.Rules.{rules}
 use Rattle.figure.specs.Operations.{minus_down}
 use Rattle.figure.proofs.Figure.minus_down.Goals as goal
 

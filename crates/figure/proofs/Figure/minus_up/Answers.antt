@@ -1,5 +1,4 @@
 -- `Figure::minus_up` meets its contract. Assumes nothing.
-use borrow.Author.Rules.{rules}
 use Rattle.figure.specs.Operations.{minus_up}
 use Rattle.figure.proofs.Figure.minus_up.Goals as goal
 

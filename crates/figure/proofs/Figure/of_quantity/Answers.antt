@@ -1,6 +1,5 @@
 -- `Figure::of_quantity` meets its contract. Assumes nothing.
 use mathlib.Core.Bool.{true}
-use borrow.Author.Rules.{rules}
 use Rattle.figure.specs.Operations.{of_quantity}
 use Rattle.figure.proofs.Wholes.{quantity_power, quantity_answer}
 use Rattle.figure.proofs.Figure.of_quantity.Goals as goal

@@ -1,6 +1,5 @@
 -- `Figure::of_quantity_telling` meets its contract. Assumes nothing.
 use mathlib.Core.Bool.{true, false}
-use borrow.Author.Rules.{rules}
 use Rattle.figure.specs.Operations.{of_quantity}
 use Rattle.figure.specs.Losses.{quantity_keeps}
 use Rattle.figure.proofs.Wholes.{quantity_power, quantity_answer}

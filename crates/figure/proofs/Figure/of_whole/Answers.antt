@@ -1,6 +1,5 @@
 -- `Figure::of_whole` meets its contract. Assumes nothing.
 use mathlib.Core.Bool.{false}
-use borrow.Author.Rules.{rules}
 use Rattle.figure.specs.Operations.{of_whole}
 use Rattle.figure.proofs.Wholes.{of_whole_answer}
 use Rattle.figure.proofs.Figure.of_whole.Goals as goal

@@ -1,6 +1,5 @@
 -- `Figure::of_whole_telling` meets its contract. Assumes nothing.
 use mathlib.Core.Bool.{true, false}
-use borrow.Author.Rules.{rules}
 use Rattle.figure.specs.Operations.{of_whole}
 use Rattle.figure.specs.Losses.{whole_keeps}
 use Rattle.figure.proofs.Wholes.{of_whole_answer}

@@ -1,5 +1,4 @@
 -- `Figure::plus_down` meets its contract. Assumes nothing.
-use borrow.Author.Rules.{rules}
 use Rattle.figure.specs.Operations.{plus_down}
 use Rattle.figure.proofs.Figure.plus_down.Goals as goal
 

@@ -1,6 +1,5 @@
 -- `Figure::plus_down_telling` meets its contract. Assumes nothing.
 use mathlib.Core.Bool.{false}
-use borrow.Author.Rules.{rules}
 use Rattle.figure.specs.Operations.{plus_down}
 use Rattle.figure.specs.Losses.{plus_keeps}
 use Rattle.figure.proofs.Tellings.{told_by}

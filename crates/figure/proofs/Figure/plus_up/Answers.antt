@@ -1,5 +1,4 @@
 -- `Figure::plus_up` meets its contract. Assumes nothing.
-use borrow.Author.Rules.{rules}
 use Rattle.figure.specs.Operations.{plus_up}
 use Rattle.figure.proofs.Figure.plus_up.Goals as goal
 

@@ -1,6 +1,5 @@
 -- `Figure::plus_up_telling` meets its contract. Assumes nothing.
 use mathlib.Core.Bool.{true}
-use borrow.Author.Rules.{rules}
 use Rattle.figure.specs.Operations.{plus_up}
 use Rattle.figure.specs.Losses.{plus_keeps}
 use Rattle.figure.proofs.Tellings.{told_by}

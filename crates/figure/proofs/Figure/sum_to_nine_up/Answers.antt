@@ -1,5 +1,4 @@
 -- `Figure::sum_to_nine_up` meets its contract. Assumes nothing.
-use borrow.Author.Rules.{rules}
 use Rattle.figure.specs.Operations.{sum_to_nine_up}
 use Rattle.figure.proofs.Figure.sum_to_nine_up.Goals as goal
 

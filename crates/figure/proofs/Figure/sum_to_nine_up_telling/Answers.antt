@@ -1,6 +1,5 @@
 -- `Figure::sum_to_nine_up_telling` meets its contract. Assumes nothing.
 use mathlib.Core.Bool.{true}
-use borrow.Author.Rules.{rules}
 use Rattle.figure.specs.Operations.{sum_to_nine_up}
 use Rattle.figure.specs.Losses.{sum_to_nine_keeps}
 use Rattle.figure.proofs.Tellings.{told_by}

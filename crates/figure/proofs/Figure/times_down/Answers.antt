@@ -1,5 +1,4 @@
 -- `Figure::times_down` meets its contract. Assumes nothing.
-use borrow.Author.Rules.{rules}
 use Rattle.figure.specs.Operations.{times_down}
 use Rattle.figure.proofs.Figure.times_down.Goals as goal
 

@@ -1,6 +1,5 @@
 -- `Figure::times_down_telling` meets its contract. Assumes nothing.
 use mathlib.Core.Bool.{false}
-use borrow.Author.Rules.{rules}
 use Rattle.figure.specs.Operations.{times_down}
 use Rattle.figure.specs.Losses.{times_keeps}
 use Rattle.figure.proofs.Tellings.{told_by}

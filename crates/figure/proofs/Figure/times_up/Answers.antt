@@ -1,5 +1,4 @@
 -- `Figure::times_up` meets its contract. Assumes nothing.
-use borrow.Author.Rules.{rules}
 use Rattle.figure.specs.Operations.{times_up}
 use Rattle.figure.proofs.Figure.times_up.Goals as goal
 

@@ -1,5 +1,4 @@
 -- `Figure::to_nine_down` meets its contract. Assumes nothing.
-use borrow.Author.Rules.{rules}
 use Rattle.figure.specs.Operations.{to_nine_down}
 use Rattle.figure.proofs.Figure.to_nine_down.Goals as goal
 

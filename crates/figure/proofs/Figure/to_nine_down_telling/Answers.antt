@@ -1,6 +1,5 @@
 -- `Figure::to_nine_down_telling` meets its contract. Assumes nothing.
 use mathlib.Core.Bool.{false}
-use borrow.Author.Rules.{rules}
 use Rattle.figure.specs.Operations.{to_nine_down}
 use Rattle.figure.specs.Losses.{to_nine_keeps}
 use Rattle.figure.proofs.Tellings.{told_by}

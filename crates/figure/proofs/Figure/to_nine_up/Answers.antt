@@ -1,5 +1,4 @@
 -- `Figure::to_nine_up` meets its contract. Assumes nothing.
-use borrow.Author.Rules.{rules}
 use Rattle.figure.specs.Operations.{to_nine_up}
 use Rattle.figure.proofs.Figure.to_nine_up.Goals as goal
 

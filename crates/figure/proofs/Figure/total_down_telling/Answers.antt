@@ -1,6 +1,5 @@
 -- `Figure::total_down_telling` meets its contract. Assumes nothing.
 use mathlib.Core.Bool.{true, false}
-use borrow.Author.Rules.{rules}
 use Rattle.figure.specs.Operations.{total_down}
 use Rattle.figure.specs.Losses.{total_keeps}
 use Rattle.figure.proofs.Figures.{sized_more}

@@ -1,6 +1,5 @@
 -- `Figure::total_up` meets its contract. Assumes nothing.
 use mathlib.Core.Bool.{true}
-use borrow.Author.Rules.{rules}
 use Rattle.figure.specs.Operations.{total_up}
 use Rattle.figure.proofs.Figures.{sized_more}
 use Rattle.figure.proofs.Totals.{eighteen, widening_sized, total_answer}

@@ -1,5 +1,4 @@
 -- `difference::less` meets its contract. Assumes nothing.
-use borrow.Author.Rules.{rules}
 use Rattle.figure.proofs.Stored.{gap_asks}
 use Rattle.figure.proofs.Figures.{room}
 use Rattle.figure.proofs.Differences.{far_answer, scaled_fits, near_nothing, near_answer}

@@ -1,5 +1,4 @@
 -- `difference::minus` meets its contract. Assumes nothing.
-use borrow.Author.Rules.{rules}
 use Rattle.figure.proofs.Sums.{ordered}
 use Rattle.figure.proofs.Figures.{sized_more}
 use Rattle.figure.proofs.Differences.{nothing_taken, taken_from_nothing, higher_taken}

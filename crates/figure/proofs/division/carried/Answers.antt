@@ -1,5 +1,4 @@
 -- `division::carried` meets its contract. Assumes nothing.
-use borrow.Author.Rules.{rules}
 use native.Mathlib.Omega.{arith}
 use lib.Dec.{lit≤}
 use Rattle.figure.proofs.Stored.{kept_near}

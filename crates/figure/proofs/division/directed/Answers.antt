@@ -1,5 +1,4 @@
 -- `division::directed` meets its contract. Assumes nothing.
-use borrow.Author.Rules.{rules}
 use native.Mathlib.Omega.{arith}
 use Rattle.figure.proofs.Parts.{digits_fit, directed_more, directed_exact, directed_down}
 use Rattle.figure.proofs.division.directed.Goals as goal

@@ -1,6 +1,5 @@
 -- `division::parted` meets its contract: the quotient times the divisor is at most the number, so it fits. Assumes nothing.
 use mathlib.Core.Path.{refl}
-use borrow.Author.Rules.{rules}
 use Rattle.figure.specs.Internal.Steps.{part}
 use Rattle.figure.proofs.Parts.{part_fits}
 use Rattle.figure.proofs.division.parted.Goals as goal

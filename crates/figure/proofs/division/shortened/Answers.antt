@@ -1,5 +1,4 @@
 -- `division::shortened` meets its contract. Assumes nothing.
-use borrow.Author.Rules.{rules}
 use Rattle.figure.proofs.Parts.{shorter_rest, shorter_clean}
 use Rattle.figure.proofs.division.shortened.Goals as goal
 

@@ -1,6 +1,5 @@
 -- `powers::negative` meets its contract: 0 less a small number fits. Assumes nothing.
 use mathlib.Core.Path.{◌∙◌}
-use borrow.Author.Rules.{rules}
 use native.Mathlib.Omega.{arith}
 use lib.Dec.{lit≤}
 use lib.IntN.{pos, neg_ℤ, ◌-ℤ◌, +ℤ_idl}

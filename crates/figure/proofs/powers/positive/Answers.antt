@@ -1,5 +1,4 @@
 -- `powers::positive` meets its contract: a small number is stored and read back unchanged. Assumes nothing.
-use borrow.Author.Rules.{rules}
 use native.Mathlib.Omega.{arith}
 use lib.IntN.{pos}
 use Rattle.figure.proofs.Stored.{kept}

@@ -1,7 +1,6 @@
 -- `product::divisor` meets its contract. Assumes nothing.
 use mathlib.Core.Path.{◌∙◌, ap}
 use Prim.Native.Nat.{ℕ, ◌+◌, ◌*◌}
-use borrow.Author.Rules.{rules}
 use Rattle.figure.proofs.Products.{divisor_is}
 use Rattle.figure.proofs.product.divisor.Goals as goal
 

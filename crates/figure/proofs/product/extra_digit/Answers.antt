@@ -1,7 +1,6 @@
 -- `product::extra_digit` meets its contract. Assumes nothing.
 use mathlib.Core.Path.{subst, sym}
 use Prim.Native.Nat.{ℕ, ◌≤◌}
-use borrow.Author.Rules.{rules}
 use Rattle.figure.proofs.Products.{eighteenth_high, eighteenth_is}
 use Rattle.figure.proofs.product.extra_digit.Goals as goal
 

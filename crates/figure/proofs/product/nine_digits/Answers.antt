@@ -2,7 +2,6 @@
 use mathlib.Core.Path.{subst, sym}
 use Prim.Native.Nat.{ℕ, ◌<◌}
 use native.Mathlib.Omega.{arith}
-use borrow.Author.Rules.{rules}
 use Rattle.figure.proofs.Products.{divisor_some, scaling_is}
 use Rattle.figure.proofs.product.nine_digits.Goals as goal
 

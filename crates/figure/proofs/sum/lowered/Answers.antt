@@ -1,6 +1,5 @@
 -- `sum::lowered` meets its contract: past the table nothing of the number is left but that there was something. Assumes nothing.
 use mathlib.Core.Path.{◌∙◌, ap}
-use borrow.Author.Rules.{rules}
 use Rattle.figure.specs.Internal.Steps.{part}
 use Rattle.figure.proofs.Scale.{pow_pos}
 use Rattle.figure.proofs.Sums.{far_part}

@@ -1,6 +1,5 @@
 -- `sum::plus` meets its contract. Assumes nothing.
 use mathlib.Core.Path.{◌∙◌}
-use borrow.Author.Rules.{rules}
 use Rattle.figure.proofs.Sums.{ordered, ordered_back, sum_zero, sum_swap}
 use Rattle.figure.proofs.sum.plus.Goals as goal
 

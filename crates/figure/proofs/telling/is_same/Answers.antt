@@ -1,5 +1,5 @@
 -- `telling::is_same` meets its contract. Assumes nothing.
-use mathlib.Core.Path.{◌≡◌, refl, ap}
+use mathlib.Core.Path.{refl, ap}
 use mathlib.Core.Bool.{false≢true}
 use borrow.Author.Rules.{rules}
 use mir.Syntax.{w32}

@@ -1,6 +1,5 @@
 -- `telling::told` meets its contract. Assumes nothing.
 use mathlib.Core.Path.{refl}
-use borrow.Author.Rules.{rules}
 use Rattle.figure.proofs.telling.told.Goals as goal
 
 pub returns : goal.returns

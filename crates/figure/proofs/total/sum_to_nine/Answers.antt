@@ -1,6 +1,5 @@
 -- `total::sum_to_nine` meets its contract. Assumes nothing.
 use mathlib.Core.Path.{◌∙◌}
-use borrow.Author.Rules.{rules}
 use Rattle.figure.proofs.Figures.{sized_more}
 use Rattle.figure.proofs.Sums.{ordered, ordered_back, nothing_added, sum_swap}
 use Rattle.figure.proofs.Totals.{nine}

@@ -1,5 +1,4 @@
 -- `whole::digit_count` meets its contract. Assumes nothing.
-use borrow.Author.Rules.{rules}
 use Rattle.figure.proofs.Wholes.{more_digits}
 use Rattle.figure.proofs.whole.digit_count.Goals as goal
 

@@ -1,5 +1,4 @@
 -- `model::index::enter` meets its contract. Assumes nothing.
-use borrow.Author.Rules.{rules}
 use Rattle.model.proofs.index.enter.Goals as goal
 
 pub returns : goal.returns

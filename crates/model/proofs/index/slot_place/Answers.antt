@@ -1,7 +1,6 @@
 -- `model::index::slot_place` meets its contract. Assumes nothing.
 use mathlib.Core.Path.{ap, ◌∙◌}
 use Rattle.model.specs.Index.{place_of}
-use borrow.Author.Rules.{rules}
 use Rattle.model.proofs.index.slot_place.Goals as goal
 
 pub place_of-requires : goal.place_of-requires

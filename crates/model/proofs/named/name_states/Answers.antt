@@ -1,15 +1,12 @@
 -- `model::named::name_states` meets its contract: the words up to `at` are read, with the flags of the states that they name. Assumes nothing.
-use Prim.Native.Nat.{◌-◌}
 use mathlib.Core.Path.{◌≡◌, refl, sym, ap, ◌∙◌}
 use native.Mathlib.Omega.{arith}
-use lib.ListN.{length, get_or}
-use borrow.Author.Rules.{rules}
+use lib.ListN.{get_or}
 use Rattle.word.specs.Words.{kind}
 use Rattle.word.specs.Faults.{named_faults}
 use Rattle.word.specs.Answer.{granted}
 use Rattle.word.specs.Internal.Tests.{answer, first_fault}
-use Rattle.model.specs.declared.Accepted.{Accepted}
-use Rattle.model.specs.Internal.Parts.{IsOpened, NamedUpTo}
+use Rattle.model.specs.Internal.Parts.{NamedUpTo}
 use Rattle.word.proofs.Parts.{part_word}
 use Rattle.model.proofs.Naming.{naming_begins, word_there, name_stops, state_small, name_passes, naming_ends}
 use Rattle.model.proofs.named.name_states.Goals as goal

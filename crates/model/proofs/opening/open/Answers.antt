@@ -9,7 +9,6 @@ use Rattle.word.specs.Words.{quantity}
 use Rattle.word.specs.Internal.Tests.{answer}
 use Rattle.word.proofs.Parts.{part_from}
 use Rattle.model.proofs.Asked.{first_model, FirstWords, opening_stops, opening_passes}
-use borrow.Author.Rules.{rules}
 use Rattle.model.proofs.opening.open.Goals as goal
 
 -- the quantity that is read from the part that begins at a place

@@ -1,7 +1,7 @@
 -- `model::opening::verdict` meets its contract: the four words are tested one after the other. Assumes nothing.
-use Prim.Native.Nat.{ℕ, ◌<◌}
+use Prim.Native.Nat.{◌<◌}
 use mathlib.Core.Path.{◌≡◌, sym, ap, ◌∙◌}
-use mathlib.Core.List.{List, []}
+use mathlib.Core.List.{[]}
 use lib.ListN.{length, drop}
 use Rattle.word.specs.Faults.{head_faults, quantity_faults}
 use Rattle.word.specs.Answer.{granted}
@@ -9,7 +9,6 @@ use Rattle.word.specs.Internal.Tests.{answer, word_answer}
 use Rattle.model.specs.Internal.Parts.{words_answer, opening_faults}
 use Rattle.word.proofs.Parts.{part_from}
 use Rattle.model.proofs.Steps.{words_here, words_later, words_last, word_inside}
-use borrow.Author.Rules.{rules}
 use Rattle.model.proofs.opening.verdict.Goals as goal
 
 pub returns-in-Refused : goal.returns-in-Refused

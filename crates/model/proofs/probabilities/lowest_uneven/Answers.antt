@@ -1,11 +1,9 @@
 -- `model::probabilities::lowest_uneven` meets its contract: the lowest from s on is the lowest of all. Assumes nothing.
-use Prim.Native.Nat.{◌+◌, ◌-◌, ◌≤◌}
-use mathlib.Core.Path.{◌≡◌, sym, ap, ◌∙◌}
+use mathlib.Core.Path.{sym, ap, ◌∙◌}
 use native.Mathlib.Omega.{arith}
 use borrow.Author.Rules.{rules}
-use Rattle.word.specs.Model.{Net}
-use Rattle.model.specs.Reading.{uneven, lowest}
-use Rattle.model.specs.Internal.Parts.{slot_transitions, sums_uneven, Through}
+use Rattle.model.specs.Reading.{uneven}
+use Rattle.model.specs.Internal.Parts.{slot_transitions, sums_uneven}
 use Rattle.model.proofs.Stopping.{lowest_all, lowest_turn, lowest_next, lowest_none_left}
 use Rattle.model.proofs.probabilities.lowest_uneven.Goals as goal
 

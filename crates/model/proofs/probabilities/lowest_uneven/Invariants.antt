@@ -1,11 +1,8 @@
 use Prim.Native.Nat.{◌+◌, ◌-◌, ◌≤◌}
-use mathlib.Core.Path.{◌≡◌, sym, ap, ◌∙◌}
-use native.Mathlib.Omega.{arith}
-use borrow.Author.Rules.{rules}
+use mathlib.Core.Path.{◌≡◌}
 use Rattle.word.specs.Model.{Net}
 use Rattle.model.specs.Reading.{uneven, lowest}
-use Rattle.model.specs.Internal.Parts.{slot_transitions, sums_uneven, Through}
-use Rattle.model.proofs.Stopping.{lowest_all, lowest_turn, lowest_next, lowest_none_left}
+use Rattle.model.specs.Internal.Parts.{Through}
 use Rattle.model.proofs.probabilities.lowest_uneven.Given as goal
 
 abbrev pub invariant-loop-s : goal.invariant-loop-s

@@ -1,5 +1,5 @@
 -- `model::probabilities::ten_to` meets its contract: p is 10^i. Assumes nothing.
-use Prim.Native.Nat.{ℕ, ◌-◌, ◌*◌, ◌^◌, ◌≤◌}
+use Prim.Native.Nat.{ℕ, ◌*◌, ◌^◌}
 use mathlib.Core.Path.{◌≡◌, refl, ap, ◌∙◌}
 use native.Mathlib.Omega.{arith}
 use Rattle.model.proofs.Units.{ten_high, ten_more}

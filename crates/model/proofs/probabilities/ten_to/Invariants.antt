@@ -1,7 +1,5 @@
-use Prim.Native.Nat.{ℕ, ◌-◌, ◌*◌, ◌^◌, ◌≤◌}
-use mathlib.Core.Path.{◌≡◌, refl, ap, ◌∙◌}
-use native.Mathlib.Omega.{arith}
-use Rattle.model.proofs.Units.{ten_high, ten_more}
+use Prim.Native.Nat.{◌-◌, ◌^◌, ◌≤◌}
+use mathlib.Core.Path.{◌≡◌}
 use Rattle.model.proofs.probabilities.ten_to.Given as goal
 
 abbrev pub invariant-loop-i : goal.invariant-loop-i

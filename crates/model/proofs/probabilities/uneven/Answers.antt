@@ -1,19 +1,16 @@
 -- `model::probabilities::uneven` meets its contract: a running sum over the exits that the slots lead to. Assumes nothing.
-use Prim.Native.Nat.{ℕ, ◌+◌, ◌-◌, ◌≤◌, ◌<◌}
+use Prim.Native.Nat.{ℕ, ◌+◌, ◌<◌}
 use mathlib.Core.Path.{◌≡◌, sym, ap, ◌∙◌}
 use mathlib.Core.Bool.{Bool, ◌&&◌}
-use mathlib.Core.List.{List, ◌∷◌}
-use mathlib.Core.Logic.{⊎_elim}
+use mathlib.Core.List.{◌∷◌}
 use native.Mathlib.Omega.{arith}
 use lib.ListN.{length, get_or, drop}
 use lib.Dec.{eqb}
-use borrow.Author.Rules.{rules}
 use borrow.Author.Tests.{eqb-true, eqb-false}
-use Rattle.word.specs.Model.{Transition}
 use Rattle.word.specs.Words.{kind}
 use Rattle.word.specs.Faults.{differs}
 use Rattle.model.specs.Index.{transition_at}
-use Rattle.model.specs.Internal.Parts.{along, slot_place, slot_transitions, sums_uneven}
+use Rattle.model.specs.Internal.Parts.{slot_transitions, sums_uneven}
 use Rattle.word.proofs.Parts.{part_from, part_word}
 use Rattle.model.proofs.Along.{along_all, along_turn, along_none}
 use Rattle.model.proofs.Units.{Summed, summed_none, summed_fast_word, summed_slow_word, summed_all}

@@ -1,7 +1,6 @@
 -- `model::probabilities::units` meets its contract. Assumes nothing.
 use native.Mathlib.Omega.{arith}
 use Rattle.model.proofs.Units.{units_times, units_whole}
-use borrow.Author.Rules.{rules}
 use Rattle.model.proofs.probabilities.units.Goals as goal
 
 pub returns-then-p-ge12 : goal.returns-then-p-ge12

@@ -6,14 +6,12 @@ use mathlib.Core.List.{[]}
 use native.Mathlib.Numerals.{add-one, add-two}
 use native.Mathlib.Omega.{arith}
 use lib.ListN.{length, drop}
-use borrow.Author.Tests.{not-true, not-false}
 use Rattle.word.specs.Faults.{quantity_faults}
 use Rattle.word.specs.Answer.{granted}
 use Rattle.word.specs.Internal.Tests.{answer, word_answer}
 use Rattle.model.specs.Internal.Parts.{words_answer, body_faults}
 use Rattle.word.proofs.Parts.{part_from}
 use Rattle.model.proofs.Steps.{words_here, words_later, words_last, word_inside}
-use borrow.Author.Rules.{rules}
 use Rattle.model.proofs.transitions.body.Goals as goal
 
 pub returns-then-not-fast : goal.returns-then-not-fast

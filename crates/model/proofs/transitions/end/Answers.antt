@@ -6,7 +6,6 @@ use Rattle.word.specs.Answer.{granted}
 use Rattle.word.specs.Internal.Tests.{answer, word_answer}
 use Rattle.word.proofs.Parts.{part_from}
 use Rattle.model.proofs.TheEnd.{end_wrong, end_followed, end_last}
-use borrow.Author.Rules.{rules}
 use Rattle.model.proofs.transitions.end.Goals as goal
 
 pub returns-in-Refused : goal.returns-in-Refused

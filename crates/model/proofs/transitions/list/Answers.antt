@@ -1,8 +1,6 @@
 -- `model::transitions::list` meets its contract: the words up to `at` are read, with the index of their transitions. Assumes nothing.
-use Prim.Native.Nat.{◌+◌, ◌-◌, ◌<◌}
+use Prim.Native.Nat.{◌+◌, ◌<◌}
 use native.Mathlib.Omega.{arith}
-use lib.ListN.{length}
-use borrow.Author.Rules.{rules}
 use Rattle.model.specs.Internal.Parts.{Begun}
 use Rattle.model.proofs.transitions.list.Goals as goal
 

@@ -5,7 +5,6 @@ use Rattle.word.specs.Internal.Tests.{first_fault}
 use Rattle.model.specs.Internal.Parts.{room_faults}
 use lib.ListN.{drop}
 use Rattle.word.proofs.FirstFault.{Left, past, found, fine, untested, or_first, or_second}
-use borrow.Author.Rules.{rules}
 use Rattle.model.proofs.transitions.room.Goals as goal
 
 pub stood-requires : goal.stood-requires

@@ -1,6 +1,5 @@
 -- `at_most_one` meets its contract. Assumes nothing.
 use mathlib.Core.Path.{sym, ◌∙◌}
-use borrow.Author.Rules.{rules}
 use Rattle.orprob.proofs.Operands.{whole_figure, small_is, large_is}
 use Rattle.orprob.proofs.combination.at_most_one.Goals as goal
 

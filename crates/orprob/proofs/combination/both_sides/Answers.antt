@@ -1,5 +1,4 @@
 -- `both_sides` meets its contract. The loop's invariant: the pairs before i are combined. Assumes nothing.
-use Prim.Native.Nat.{◌-◌, ◌≤◌}
 use mathlib.Core.Path.{◌≡◌}
 use native.Mathlib.Omega.{arith}
 use lib.ListN.{length}
@@ -10,7 +9,7 @@ use Rattle.orprob.specs.Pairs.{IsPair}
 use Rattle.orprob.specs.Internal.Parts.{no_pair, pair_at}
 use Rattle.orprob.proofs.Operands.{lower_sized, upper_sized}
 use Rattle.orprob.proofs.PairTests.{pair_held}
-use Rattle.orprob.proofs.Turns.{Combining, combining_none, combining_more}
+use Rattle.orprob.proofs.Turns.{combining_none, combining_more}
 use Rattle.orprob.proofs.combination.both_sides.Goals as goal
 
 pub loop-i-init : goal.loop-i-init

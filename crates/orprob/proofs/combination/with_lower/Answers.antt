@@ -1,6 +1,5 @@
 -- `with_lower` meets its contract: every figure on the way is an operand. Assumes nothing.
 use lib.Dec.{lit≤}
-use borrow.Author.Rules.{rules}
 use Rattle.figure.proofs.Sized.{sized-≤, times_down_sized, minus_down_sized, of_whole_sized}
 use Rattle.orprob.specs.Combination.{with_lower}
 use Rattle.orprob.proofs.Operands.{plus_down_figure}

@@ -1,6 +1,5 @@
 -- `with_upper` meets its contract: every figure on the way is an operand. Assumes nothing.
 use lib.Dec.{lit≤}
-use borrow.Author.Rules.{rules}
 use Rattle.figure.proofs.Sized.{sized-≤, times_up_sized, minus_up_sized, of_whole_sized}
 use Rattle.orprob.specs.Combination.{with_upper}
 use Rattle.orprob.proofs.Operands.{plus_up_figure}

@@ -1,12 +1,8 @@
 -- `first_wrong` meets its contract. The loop's invariant: those before i are pairs. Assumes nothing.
-use Prim.Native.Nat.{◌-◌, ◌≤◌}
 use mathlib.Core.Path.{◌≡◌, sym, ◌∙◌}
 use native.Mathlib.Omega.{arith}
-use lib.ListN.{take}
 use borrow.Author.Rules.{rules}
-use borrow.Author.Tests.{not-true, not-false}
-use Rattle.orprob.specs.Pairs.{is_pair}
-use Rattle.orprob.proofs.Turns.{Right, right_none, right_more, wrong_found, none_wrong}
+use Rattle.orprob.proofs.Turns.{right_none, right_more, wrong_found, none_wrong}
 use Rattle.orprob.proofs.pairs.first_wrong.Goals as goal
 
 pub loop-i-init : goal.loop-i-init

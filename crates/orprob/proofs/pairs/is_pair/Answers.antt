@@ -2,10 +2,8 @@
 use mathlib.Core.Path.{◌≡◌, sym, ◌∙◌}
 use mathlib.Core.Bool.{true, false}
 use borrow.Author.Rules.{rules}
-use borrow.Author.Tests.{not-true, not-false}
 use Rattle.figure.specs.Tested.{figure_test}
 use Rattle.figure.proofs.Tested.{tested}
-use Rattle.orprob.specs.declared.Pair.{Pair}
 use Rattle.orprob.specs.Pairs.{power_inside}
 use Rattle.orprob.proofs.Operands.{whole_figure}
 use Rattle.orprob.proofs.PairTests.{power_told, no_lower_figure, no_upper_figure, lower_outside, upper_outside, above_one, order_decides}

@@ -2,7 +2,6 @@
 use mathlib.Core.Path.{◌≡◌, sym, ap, ◌∙◌}
 use native.Mathlib.Omega.{arith}
 use lib.Dec.{lit≤}
-use borrow.Author.Rules.{rules}
 use mathlib.Core.List.{◌∷◌}
 use Rattle.figure.proofs.Sized.{sized-≤}
 use Rattle.model.specs.Index.{transition}

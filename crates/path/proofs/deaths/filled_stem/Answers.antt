@@ -1,6 +1,5 @@
 -- `filled_stem` meets its contract: its figures are 0. Assumes nothing.
 use mathlib.Core.Path.{refl}
-use borrow.Author.Rules.{rules}
 use Rattle.tree.proofs.Ranges.{none_sized}
 use Rattle.path.proofs.deaths.filled_stem.Goals as goal
 

@@ -1,6 +1,5 @@
 -- `kept_or_new_stem` meets its contract: the stem that was kept is that of every slow exit. Assumes nothing.
 use mathlib.Core.Path.{sym, ap, ◌∙◌}
-use borrow.Author.Rules.{rules}
 use Rattle.tables.specs.Internal.Classes.{is_slow}
 use Rattle.path.proofs.DeathCache.{kept_serves}
 use Rattle.path.proofs.deaths.kept_or_new_stem.Goals as goal

@@ -1,7 +1,6 @@
 -- `lower_of` meets its contract: every figure on the way is an operand. Assumes nothing.
 use mathlib.Core.Path.{sym, ◌∙◌}
 use lib.Dec.{lit≤}
-use borrow.Author.Rules.{rules}
 use borrow.Author.Tests.{eq-eqb, ne_eqb}
 use Rattle.figure.proofs.Sized.{sized-≤, times_down_sized, divided_down_sized}
 use Rattle.path.proofs.DeathStems.{lower_filled, lower_one, lower_other}

@@ -2,7 +2,6 @@
 use mathlib.Core.Path.{◌≡◌, ap, ◌∙◌}
 use native.Mathlib.Omega.{arith}
 use lib.Dec.{lit≤}
-use borrow.Author.Rules.{rules}
 use Rattle.figure.proofs.Sized.{sized-≤, plus_up_sized}
 use Rattle.tables.specs.Internal.Described.{net_of}
 use Rattle.tables.specs.Internal.Tables.{grain_count_in}

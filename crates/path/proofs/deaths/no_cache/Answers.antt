@@ -1,6 +1,5 @@
 -- `no_cache` meets its contract: nothing is known. Assumes nothing.
 use native.Mathlib.Omega.{arith}
-use borrow.Author.Rules.{rules}
 use Rattle.path.proofs.deaths.no_cache.Goals as goal
 
 pub returns : goal.returns

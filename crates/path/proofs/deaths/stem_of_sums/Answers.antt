@@ -5,7 +5,6 @@ use native.Mathlib.Nat.{le_trans}
 use native.Mathlib.Omega.{arith}
 use lib.Dec.{lit≤}
 use lib.IntN.{negsuc}
-use borrow.Author.Rules.{rules}
 use Rattle.figure.specs.Operands.{Sized}
 use Rattle.figure.specs.Operations.{times_up, times_down, times_ten, of_whole}
 use Rattle.figure.proofs.Sized.{sized-≤, times_up_sized, times_down_sized}

@@ -1,6 +1,5 @@
 -- `exit_at` meets its contract. Assumes nothing.
 use mathlib.Core.Path.{◌∙◌}
-use borrow.Author.Rules.{rules}
 use Rattle.path.proofs.ExitReading.{state_small, time_sized, mean_sized, exit_small, exit_inside, exit_share_sized, exit_of}
 use Rattle.path.proofs.exits.exit_at.Goals as goal
 

@@ -1,7 +1,6 @@
 -- `further` meets its contract: the figures on the way are operands, and the results go by the class. Assumes nothing.
 use mathlib.Core.Path.{sym, ap, ◌∙◌}
 use lib.Dec.{lit≤}
-use borrow.Author.Rules.{rules}
 use Rattle.figure.proofs.Sized.{sized-≤}
 use Rattle.figure.specs.Operations.{times_up, divided_up}
 use Rattle.tables.specs.Internal.Classes.{class_for}

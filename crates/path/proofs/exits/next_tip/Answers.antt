@@ -1,6 +1,5 @@
 -- `next_tip` meets its contract. Assumes nothing.
 use native.Mathlib.Omega.{arith}
-use borrow.Author.Rules.{rules}
 use Rattle.path.proofs.ExitTips.{divisor, tip_made}
 use Rattle.path.proofs.exits.next_tip.Goals as goal
 

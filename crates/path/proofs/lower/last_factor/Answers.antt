@@ -2,7 +2,6 @@
 use native.Mathlib.Nat.{le_trans}
 use native.Mathlib.Omega.{arith}
 use lib.Dec.{lit≤}
-use borrow.Author.Rules.{rules}
 use Rattle.figure.proofs.Sized.{sized-≤, times_up_sized, divided_up_sized, of_whole_sized}
 use Rattle.tree.proofs.Ranges.{count_sized}
 use Rattle.tree.proofs.Positive.{of_whole_above}

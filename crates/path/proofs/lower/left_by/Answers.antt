@@ -2,7 +2,6 @@
 -- nothing.
 use mathlib.Core.Path.{◌≡◌, ap, ◌∙◌}
 use native.Mathlib.Omega.{arith}
-use borrow.Author.Rules.{rules}
 use Rattle.model.specs.Index.{transition}
 use Rattle.tables.specs.Internal.Described.{net_of}
 use Rattle.tables.specs.Internal.Tables.{mean_up_in}

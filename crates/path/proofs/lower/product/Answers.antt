@@ -1,23 +1,20 @@
 -- `product` meets its contract. The loop's invariant: k and the product are those of the path so far. Assumes nothing.
-use Prim.Native.Nat.{◌-◌, ◌≤◌, ◌<◌}
+use Prim.Native.Nat.{◌<◌}
 use mathlib.Core.Path.{◌≡◌, sym, ◌∙◌}
-use mathlib.Core.Logic.{⊎_elim}
 use native.Mathlib.Nat.{le_trans}
 use native.Mathlib.Omega.{arith}
 use lib.Dec.{lit≤}
 use lib.ListN.{length}
-use borrow.Author.Rules.{rules}
 use Rattle.figure.specs.Operands.{Sized}
 use Rattle.figure.proofs.Sized.{sized-≤, times_down_sized}
-use Rattle.word.specs.Model.{Net}
 use Rattle.tree.proofs.Positive.{of_whole_above}
 use Rattle.tree.proofs.Ranges.{count_sized}
 use Rattle.tables.specs.Internal.Classes.{is_class1}
 use Rattle.tables.specs.Internal.Described.{net_of}
 use Rattle.tables.proofs.Classes.{one_true, one_false}
 use Rattle.path.specs.Internal.Lent.{Filled, lent}
-use Rattle.path.specs.Internal.Paths.{path_of, Known, step_class}
-use Rattle.path.proofs.PathSums.{path_none, path_more, known_less, Multiplied, multiplied_start, multiplied_one, multiplied_other, multiplied_sized, ones_high}
+use Rattle.path.specs.Internal.Paths.{Known, step_class}
+use Rattle.path.proofs.PathSums.{path_none, path_more, known_less, multiplied_start, multiplied_one, multiplied_other, multiplied_sized, ones_high}
 use Rattle.path.proofs.PathSteps.{step_small, share_held, share_held_sized, factor_held, factor_held_sized}
 use Rattle.path.proofs.lower.product.Goals as goal
 use Rattle.path.proofs.lower.product.Goals.{then-is_class1, else-is_class1}

@@ -1,19 +1,16 @@
 -- `spent_on` meets its contract. The loop's invariant: N' and A are those of the path so far. Assumes nothing.
-use Prim.Native.Nat.{◌-◌, ◌≤◌, ◌<◌}
+use Prim.Native.Nat.{◌≤◌, ◌<◌}
 use mathlib.Core.Path.{◌≡◌, sym, ◌∙◌}
-use mathlib.Core.Logic.{⊎_elim}
 use native.Mathlib.Omega.{arith}
 use lib.Dec.{lit≤}
 use lib.ListN.{length}
-use borrow.Author.Rules.{rules}
 use Rattle.figure.proofs.Sized.{sized-≤}
-use Rattle.word.specs.Model.{Net}
 use Rattle.tables.specs.Internal.Classes.{is_class1}
 use Rattle.tables.specs.Internal.Described.{net_of}
 use Rattle.tables.proofs.Classes.{one_true, one_false}
 use Rattle.path.specs.Internal.Lent.{Filled, lent}
 use Rattle.path.specs.Internal.Paths.{path_of, Known, step_class}
-use Rattle.path.proofs.PathSums.{path_none, path_more, path_length, known_less, SpentOn, spent_start, spent_one, spent_other, spent_high, spent_sized}
+use Rattle.path.proofs.PathSums.{path_none, path_more, path_length, known_less, spent_start, spent_one, spent_other, spent_high, spent_sized}
 use Rattle.path.proofs.PathSteps.{step_small, state_held_small, rate_held, rate_held_sized, grains_held, grains_held_high}
 use Rattle.path.proofs.lower.spent_on.Goals as goal
 use Rattle.path.proofs.lower.spent_on.Goals.{then-is_class1, else-is_class1}

@@ -1,19 +1,7 @@
-use Prim.Native.Nat.{◌-◌, ◌≤◌, ◌<◌}
-use mathlib.Core.Path.{◌≡◌, sym, ◌∙◌}
-use mathlib.Core.Logic.{⊎_elim}
-use native.Mathlib.Omega.{arith}
-use lib.Dec.{lit≤}
-use lib.ListN.{length}
-use borrow.Author.Rules.{rules}
-use Rattle.figure.proofs.Sized.{sized-≤}
-use Rattle.word.specs.Model.{Net}
-use Rattle.tables.specs.Internal.Classes.{is_class1}
+use Prim.Native.Nat.{◌-◌, ◌≤◌}
 use Rattle.tables.specs.Internal.Described.{net_of}
-use Rattle.tables.proofs.Classes.{one_true, one_false}
-use Rattle.path.specs.Internal.Lent.{Filled, lent}
-use Rattle.path.specs.Internal.Paths.{path_of, Known, step_class}
-use Rattle.path.proofs.PathSums.{path_none, path_more, path_length, known_less, SpentOn, spent_start, spent_one, spent_other, spent_high, spent_sized}
-use Rattle.path.proofs.PathSteps.{step_small, state_held_small, rate_held, rate_held_sized, grains_held, grains_held_high}
+use Rattle.path.specs.Internal.Paths.{path_of}
+use Rattle.path.proofs.PathSums.{SpentOn}
 use Rattle.path.proofs.lower.spent_on.Given as goal
 
 abbrev pub invariant-loop-i : goal.invariant-loop-i

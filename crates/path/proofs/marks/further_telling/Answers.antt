@@ -1,7 +1,6 @@
 -- `further_telling` meets its contract: the figures on the way are operands, and the results and their marks go by the class. Assumes nothing.
 use mathlib.Core.Path.{sym, ap, ◌∙◌}
 use lib.Dec.{lit≤}
-use borrow.Author.Rules.{rules}
 use Rattle.figure.specs.Operations.{times_up, divided_up}
 use Rattle.figure.specs.Losses.{times_keeps, divided_keeps}
 use Rattle.figure.proofs.Sized.{sized-≤}

@@ -2,7 +2,6 @@
 use native.Mathlib.Nat.{le_trans}
 use native.Mathlib.Omega.{arith}
 use lib.Dec.{lit≤}
-use borrow.Author.Rules.{rules}
 use Rattle.figure.specs.Operations.{times_up, minus_down, divided_up}
 use Rattle.figure.specs.Losses.{times_keeps, minus_keeps, divided_keeps}
 use Rattle.figure.proofs.Sized.{sized-≤, times_up_sized, divided_up_sized, of_whole_sized}

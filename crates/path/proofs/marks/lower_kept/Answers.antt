@@ -3,7 +3,6 @@ use Prim.Native.Nat.{◌<◌}
 use mathlib.Core.Path.{◌≡◌}
 use lib.Dec.{lit≤}
 use lib.IntN.{negsuc}
-use borrow.Author.Rules.{rules}
 use Rattle.figure.specs.Operands.{Sized}
 use Rattle.figure.specs.Operations.{times_up, times_ten}
 use Rattle.figure.proofs.Sized.{sized-≤, times_up_sized, times_down_sized}

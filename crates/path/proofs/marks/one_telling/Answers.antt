@@ -1,6 +1,5 @@
 -- `one_telling` meets its contract: every figure on the way is an operand, and each operation tells its own mark. Assumes nothing.
 use lib.Dec.{lit≤}
-use borrow.Author.Rules.{rules}
 use Rattle.figure.specs.Operations.{times_down, divided_down}
 use Rattle.figure.specs.Losses.{times_keeps, divided_keeps}
 use Rattle.figure.proofs.Sized.{sized-≤, times_down_sized}

@@ -1,13 +1,10 @@
 -- `spent_telling` meets its contract. The loop's invariant: N', A, k and the marks are those of the path so far. Assumes nothing.
-use Prim.Native.Nat.{◌-◌, ◌≤◌, ◌<◌}
+use Prim.Native.Nat.{◌≤◌, ◌<◌}
 use mathlib.Core.Path.{◌≡◌, sym, ◌∙◌}
-use mathlib.Core.Logic.{⊎_elim}
 use native.Mathlib.Omega.{arith}
 use lib.Dec.{lit≤}
 use lib.ListN.{length}
-use borrow.Author.Rules.{rules}
 use Rattle.figure.proofs.Sized.{sized-≤}
-use Rattle.word.specs.Model.{Net}
 use Rattle.tree.proofs.Ranges.{class1_count-≤}
 use Rattle.tables.specs.Internal.Classes.{is_class1}
 use Rattle.tables.specs.Internal.Described.{net_of}
@@ -17,7 +14,7 @@ use Rattle.path.specs.Internal.Paths.{path_of, Known, step_class}
 use Rattle.path.proofs.PathSums.{path_none, path_more, path_length, known_less, spent_high, spent_sized}
 use Rattle.path.proofs.PathSteps.{step_small, state_held_small, rate_held, rate_held_sized, grains_held, grains_held_high}
 use Rattle.path.proofs.StepMarks.{rate_kept_held, grains_kept_held}
-use Rattle.path.proofs.PathMarks.{SpentMarked, spent_marked_start, spent_marked_one, spent_marked_other, spent_told_is}
+use Rattle.path.proofs.PathMarks.{spent_marked_start, spent_marked_one, spent_marked_other, spent_told_is}
 use Rattle.path.proofs.marks.spent_telling.Goals as goal
 use Rattle.path.proofs.marks.spent_telling.Goals.{then-is_class1, else-is_class1}
 

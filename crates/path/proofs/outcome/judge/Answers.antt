@@ -1,6 +1,5 @@
 -- `judge` meets its contract: its tests are those of the definition, in the same order. Assumes nothing.
 use mathlib.Core.Path.{sym, ◌∙◌}
-use borrow.Author.Rules.{rules}
 use borrow.Author.Tests.{eq-eqb, ne_eqb, le-leb, lt-leb}
 use Rattle.tree.specs.Internal.Outcomes.{decided}
 use Rattle.path.specs.Internal.Outcomes.{judged}

@@ -1,8 +1,7 @@
 -- `list_states` meets its contract. The loop's invariant: the states up to s were looked at, and those with rows are listed. Assumes nothing.
-use Prim.Native.Nat.{◌+◌, ◌-◌, ◌≤◌, ◌<◌}
+use Prim.Native.Nat.{◌<◌}
 use mathlib.Core.Path.{◌≡◌, sym, ◌∙◌}
 use native.Mathlib.Omega.{arith}
-use Rattle.rows.specs.Internal.Names.{Listed}
 use Rattle.rows.proofs.RowNames.{listed_begin, listed_room, listed_more, listed_same}
 use Rattle.rows.proofs.names.list_states.Goals as goal
 

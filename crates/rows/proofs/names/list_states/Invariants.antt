@@ -1,8 +1,5 @@
-use Prim.Native.Nat.{◌+◌, ◌-◌, ◌≤◌, ◌<◌}
-use mathlib.Core.Path.{◌≡◌, sym, ◌∙◌}
-use native.Mathlib.Omega.{arith}
+use Prim.Native.Nat.{◌-◌, ◌≤◌}
 use Rattle.rows.specs.Internal.Names.{Listed}
-use Rattle.rows.proofs.RowNames.{listed_begin, listed_room, listed_more, listed_same}
 use Rattle.rows.proofs.names.list_states.Given as goal
 
 abbrev pub invariant-loop-s : goal.invariant-loop-s

@@ -1,13 +1,11 @@
 -- `mark_targets` meets its contract. The loop's invariant: the targets of the transitions below j are marked. Assumes nothing.
-use Prim.Native.Nat.{◌-◌, ◌≤◌, ◌<◌}
+use Prim.Native.Nat.{◌<◌}
 use mathlib.Core.Path.{◌≡◌}
 use native.Mathlib.Omega.{arith}
 use native.Mathlib.Numerals.{add-one}
 use lib.ListN.{length}
-use borrow.Author.Rules.{rules}
 use Rattle.tables.specs.Internal.Described.{net_of}
 use Rattle.tables.proofs.Classes.{index_small, place_inside}
-use Rattle.rows.specs.Internal.Names.{Targets}
 use Rattle.rows.proofs.RowNames.{targets_none, targets_more, target_is, target_small}
 use Rattle.rows.proofs.names.mark_targets.Goals as goal
 

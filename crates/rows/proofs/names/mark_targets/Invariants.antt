@@ -1,13 +1,6 @@
-use Prim.Native.Nat.{◌-◌, ◌≤◌, ◌<◌}
-use mathlib.Core.Path.{◌≡◌}
-use native.Mathlib.Omega.{arith}
-use native.Mathlib.Numerals.{add-one}
-use lib.ListN.{length}
-use borrow.Author.Rules.{rules}
+use Prim.Native.Nat.{◌-◌, ◌≤◌}
 use Rattle.tables.specs.Internal.Described.{net_of}
-use Rattle.tables.proofs.Classes.{index_small, place_inside}
 use Rattle.rows.specs.Internal.Names.{Targets}
-use Rattle.rows.proofs.RowNames.{targets_none, targets_more, target_is, target_small}
 use Rattle.rows.proofs.names.mark_targets.Given as goal
 
 abbrev pub invariant-loop-j : goal.invariant-loop-j

@@ -1,7 +1,6 @@
 -- `name_rows` meets its contract. Assumes nothing.
 use mathlib.Core.Path.{refl, ap}
 use lib.ListN.{length}
-use borrow.Author.Rules.{rules}
 use Rattle.tables.proofs.Summaries.{states_few, transitions_are}
 use Rattle.rows.proofs.RowNames.{named}
 use Rattle.rows.proofs.names.name_rows.Goals as goal

@@ -1,5 +1,5 @@
 -- `is_open` meets its contract. Assumes nothing.
-use mathlib.Core.Path.{◌≡◌, sym, ◌∙◌, ap}
+use mathlib.Core.Path.{sym, ◌∙◌, ap}
 use mathlib.Core.Bool.{◌||◌}
 use Rattle.rows.specs.Internal.Table.{kept_in}
 use Rattle.rows.proofs.RowMarks.{lower_place, upper_place}

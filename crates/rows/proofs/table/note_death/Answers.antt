@@ -2,7 +2,6 @@
 use Prim.Native.Nat.{◌+◌, ◌*◌}
 use mathlib.Core.Path.{◌∙◌}
 use native.Mathlib.Omega.{arith}
-use borrow.Author.Rules.{rules}
 use Rattle.rows.specs.Internal.Table.{totals_in}
 use Rattle.rows.proofs.RowTotals.{total_behind, death_noted}
 use Rattle.rows.proofs.table.note_death.Goals as goal

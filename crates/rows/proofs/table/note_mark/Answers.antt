@@ -1,6 +1,5 @@
 -- `note_mark` meets its contract. Assumes nothing.
 use native.Mathlib.Omega.{arith}
-use borrow.Author.Rules.{rules}
 use Rattle.rows.proofs.RowMarks.{mark_same, mark_written}
 use Rattle.rows.proofs.table.note_mark.Goals as goal
 

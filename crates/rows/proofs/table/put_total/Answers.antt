@@ -1,6 +1,5 @@
 -- `put_total` meets its contract. Assumes nothing.
 use native.Mathlib.Omega.{arith}
-use borrow.Author.Rules.{rules}
 use Rattle.rows.proofs.RowTotals.{put_total}
 use Rattle.rows.proofs.table.put_total.Goals as goal
 

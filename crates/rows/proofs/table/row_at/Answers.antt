@@ -8,7 +8,6 @@ use Rattle.tree.proofs.Ranges.{total_none, total_operand}
 use Rattle.tree.specs.Internal.Tally.{finish_row}
 use Rattle.rows.specs.Internal.Table.{totals_in}
 use Rattle.rows.specs.Internal.Filling.{row_in}
-use borrow.Author.Rules.{rules}
 use Rattle.rows.proofs.table.row_at.Goals as goal
 
 pub to_nine_down-lower-requires : goal.to_nine_down-lower-requires

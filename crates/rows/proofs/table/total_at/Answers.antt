@@ -1,6 +1,5 @@
 -- `total_at` meets its contract. Assumes nothing.
 use mathlib.Core.Path.{◌∙◌}
-use borrow.Author.Rules.{rules}
 use Rattle.rows.proofs.RowTotals.{total_none, total_some}
 use Rattle.rows.proofs.table.total_at.Goals as goal
 

@@ -1,5 +1,4 @@
 -- `class::class_of` meets its contract. Assumes nothing.
-use borrow.Author.Rules.{rules}
 use Rattle.tables.proofs.Classes.{by_three}
 use Rattle.tables.proofs.class.class_of.Goals as goal
 

@@ -1,5 +1,4 @@
 -- `figures::added_down` meets its contract. Assumes nothing.
-use borrow.Author.Rules.{rules}
 use Rattle.tables.specs.Internal.Told.{sum_down_of}
 use Rattle.tables.proofs.figures.added_down.Goals as goal
 

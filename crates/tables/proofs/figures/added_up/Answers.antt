@@ -1,5 +1,4 @@
 -- `figures::added_up` meets its contract. Assumes nothing.
-use borrow.Author.Rules.{rules}
 use Rattle.tables.specs.Internal.Told.{sum_up_of}
 use Rattle.tables.proofs.figures.added_up.Goals as goal
 

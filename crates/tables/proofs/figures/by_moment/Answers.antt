@@ -1,5 +1,4 @@
 -- `figures::by_moment` meets its contract. Assumes nothing.
-use borrow.Author.Rules.{rules}
 use Rattle.tables.proofs.figures.by_moment.Goals as goal
 
 pub returns : goal.returns

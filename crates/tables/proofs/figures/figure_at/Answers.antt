@@ -1,5 +1,4 @@
 -- `figures::figure_at` meets its contract. Assumes nothing.
-use borrow.Author.Rules.{rules}
 use native.Mathlib.Omega.{arith}
 use Rattle.tables.proofs.figures.figure_at.Goals as goal
 

@@ -1,5 +1,4 @@
 -- `figures::second_moment` meets its contract. Assumes nothing.
-use borrow.Author.Rules.{rules}
 use lib.Dec.{lit≤}
 use Rattle.figure.proofs.Sized.{sized-≤, times_up_sized}
 use Rattle.tables.specs.Internal.Told.{moment_of}

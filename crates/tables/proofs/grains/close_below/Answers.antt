@@ -1,9 +1,7 @@
 -- `grains::close_below` meets its contract. The loop's invariant: what was found so far is below; the measure is the bit. Assumes nothing.
-use mathlib.Core.Logic.{⊎_elim}
-use Prim.Native.Nat.{◌≤◌}
 use native.Mathlib.Omega.{arith}
 use lib.Dec.{lit≤}
-use Rattle.tables.specs.Internal.Roots.{exponent, Below}
+use Rattle.tables.specs.Internal.Roots.{exponent}
 use Rattle.tables.proofs.Search.{below_none, below_more, below_same}
 use Rattle.tables.proofs.grains.close_below.Goals as goal
 use Rattle.tables.proofs.grains.close_below.Goals.{then-m-lt1000000+then-power-c, then-m-lt1000000+else-power-c, else-m-lt1000000}

@@ -1,9 +1,5 @@
-use mathlib.Core.Logic.{⊎_elim}
 use Prim.Native.Nat.{◌≤◌}
-use native.Mathlib.Omega.{arith}
-use lib.Dec.{lit≤}
 use Rattle.tables.specs.Internal.Roots.{exponent, Below}
-use Rattle.tables.proofs.Search.{below_none, below_more, below_same}
 use Rattle.tables.proofs.grains.close_below.Given as goal
 
 abbrev pub invariant-loop-bit : goal.invariant-loop-bit

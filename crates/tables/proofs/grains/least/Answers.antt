@@ -1,11 +1,8 @@
 -- `grains::least` meets its contract. The loop's invariant: no number below n will do; the measure is what is left up to 1,000,000. Assumes
 -- nothing.
-use Prim.Native.Nat.{◌-◌}
-use borrow.Author.Rules.{rules}
 use native.Mathlib.Omega.{arith}
 use lib.Dec.{lit≤}
-use Rattle.tables.specs.Internal.Roots.{exponent}
-use Rattle.tables.proofs.Search.{Searched, searched_from, searched_next, searched_all, searched_found}
+use Rattle.tables.proofs.Search.{searched_from, searched_next, searched_all, searched_found}
 use Rattle.tables.proofs.grains.least.Goals as goal
 
 pub overflow_add-n : goal.overflow_add-n

@@ -1,9 +1,6 @@
 use Prim.Native.Nat.{◌-◌}
-use borrow.Author.Rules.{rules}
-use native.Mathlib.Omega.{arith}
-use lib.Dec.{lit≤}
 use Rattle.tables.specs.Internal.Roots.{exponent}
-use Rattle.tables.proofs.Search.{Searched, searched_from, searched_next, searched_all, searched_found}
+use Rattle.tables.proofs.Search.{Searched}
 use Rattle.tables.proofs.grains.least.Given as goal
 
 abbrev pub invariant-loop-n : goal.invariant-loop-n

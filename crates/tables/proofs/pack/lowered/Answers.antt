@@ -1,5 +1,4 @@
 -- `pack::lowered` meets its contract: a raised power fits when set back. Assumes nothing.
-use borrow.Author.Rules.{rules}
 use Rattle.tables.proofs.Packed.{lowered_fit, lowered_is}
 use Rattle.tables.proofs.pack.lowered.Goals as goal
 

@@ -1,5 +1,4 @@
 -- `pack::pack` meets its contract: digits, raised power and mark lie side by side. Assumes nothing.
-use borrow.Author.Rules.{rules}
 use Rattle.tables.proofs.Packed.{above_fits, packed_fits, packed_marked_fits, packed_is}
 use Rattle.tables.proofs.pack.pack.Goals as goal
 

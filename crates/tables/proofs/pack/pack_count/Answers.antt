@@ -1,5 +1,4 @@
 -- `pack::pack_count` meets its contract. Assumes nothing.
-use borrow.Author.Rules.{rules}
 use Rattle.tables.proofs.Packed.{count_fits, count_is}
 use Rattle.tables.proofs.pack.pack_count.Goals as goal
 

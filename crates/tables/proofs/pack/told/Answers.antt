@@ -1,5 +1,4 @@
 -- `pack::told` meets its contract. Assumes nothing.
-use borrow.Author.Rules.{rules}
 use Rattle.tables.proofs.pack.told.Goals as goal
 
 pub returns : goal.returns

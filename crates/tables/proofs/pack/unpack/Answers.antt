@@ -1,5 +1,4 @@
 -- `pack::unpack` meets its contract. Assumes nothing.
-use borrow.Author.Rules.{rules}
 use Rattle.tables.proofs.Packed.{unpacked_is}
 use Rattle.tables.proofs.pack.unpack.Goals as goal
 

@@ -1,10 +1,8 @@
 -- `states::fill_states` meets its contract. The loop's invariant: the table holds the sums of the states below s. Assumes nothing.
-use Prim.Native.Nat.{◌+◌, ◌-◌, ◌≤◌}
-use mathlib.Core.Path.{◌≡◌, ◌∙◌}
+use Prim.Native.Nat.{◌≤◌}
+use mathlib.Core.Path.{◌∙◌}
 use native.Mathlib.Omega.{arith}
-use lib.ListN.{length}
 use Rattle.tables.specs.Internal.Described.{net_of}
-use Rattle.tables.specs.Internal.Tables.{StatesHold}
 use Rattle.tables.proofs.StatesFilled.{states_none, states_more, states_all, sums_sized}
 use Rattle.tables.proofs.states.fill_states.Goals as goal
 

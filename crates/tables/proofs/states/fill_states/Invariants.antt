@@ -1,10 +1,8 @@
 use Prim.Native.Nat.{◌+◌, ◌-◌, ◌≤◌}
-use mathlib.Core.Path.{◌≡◌, ◌∙◌}
-use native.Mathlib.Omega.{arith}
+use mathlib.Core.Path.{◌≡◌}
 use lib.ListN.{length}
 use Rattle.tables.specs.Internal.Described.{net_of}
 use Rattle.tables.specs.Internal.Tables.{StatesHold}
-use Rattle.tables.proofs.StatesFilled.{states_none, states_more, states_all, sums_sized}
 use Rattle.tables.proofs.states.fill_states.Given as goal
 
 abbrev pub invariant-loop-s : goal.invariant-loop-s

@@ -1,5 +1,4 @@
 -- `states::put_sums` meets its contract. Assumes nothing.
-use borrow.Author.Rules.{rules}
 use Rattle.tables.proofs.Sections.{sums_put}
 use Rattle.tables.proofs.states.put_sums.Goals as goal
 

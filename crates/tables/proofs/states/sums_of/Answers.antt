@@ -1,16 +1,15 @@
 -- `states::sums_of` meets its contract. The loop's invariant: the sums so far and the exits still to come make the state's sums. Assumes
 -- nothing.
-use Prim.Native.Nat.{◌-◌, ◌≤◌}
+use Prim.Native.Nat.{◌≤◌}
 use mathlib.Core.Path.{◌≡◌, ◌∙◌}
 use native.Mathlib.Omega.{arith}
-use borrow.Author.Rules.{rules}
 use lib.ListN.{get_or}
 use Rattle.word.specs.Model.{exits}
 use Rattle.model.specs.Index.{slot, no_transition}
 use Rattle.tables.specs.Internal.Described.{net_of}
 use Rattle.tables.proofs.Firsts.{Placed, placed_inside, placed_first}
 use Rattle.tables.proofs.Reached.{count_is, count_few, exit_more, index_small, exit_placed}
-use Rattle.tables.proofs.StateSums.{SummedTo, summed_none, summed_more, summed_all, summed_sized}
+use Rattle.tables.proofs.StateSums.{summed_none, summed_more, summed_all, summed_sized}
 use Rattle.tables.proofs.states.sums_of.Goals as goal
 
 pub exit_count-count-requires : goal.exit_count-count-requires

@@ -1,6 +1,5 @@
 -- `steps::class2_loss` meets its contract. Assumes nothing.
 use Prim.Native.Nat.{◌*◌}
-use borrow.Author.Rules.{rules}
 use lib.Dec.{lit≤}
 use Rattle.figure.proofs.Sized.{sized-≤, times_up_sized}
 use Rattle.tables.specs.Internal.Steps.{class2_loss_of}

@@ -1,5 +1,4 @@
 -- `steps::class2_quotient` meets its contract. Assumes nothing.
-use borrow.Author.Rules.{rules}
 use lib.Dec.{lit≤}
 use Rattle.figure.proofs.Sized.{sized-≤, times_up_sized}
 use Rattle.tree.proofs.Ranges.{count_sized}

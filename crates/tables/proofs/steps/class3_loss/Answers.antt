@@ -1,7 +1,6 @@
 -- `steps::class3_loss` meets its contract. Assumes nothing.
 use mathlib.Core.Path.{◌≡◌}
 use native.Mathlib.Nat.{le_trans}
-use borrow.Author.Rules.{rules}
 use lib.Dec.{lit≤}
 use Rattle.figure.specs.Operations.{times_down, of_whole}
 use Rattle.figure.specs.Losses.{told, times_keeps}

@@ -1,5 +1,4 @@
 -- `steps::class3_quotient` meets its contract. Assumes nothing.
-use borrow.Author.Rules.{rules}
 use lib.Dec.{lit≤}
 use Rattle.figure.proofs.Sized.{sized-≤, times_down_sized}
 use Rattle.tree.proofs.Positive.{times_down_above}

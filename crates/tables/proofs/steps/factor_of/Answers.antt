@@ -1,5 +1,4 @@
 -- `steps::factor_of` meets its contract. Assumes nothing.
-use borrow.Author.Rules.{rules}
 use lib.Dec.{lit≤}
 use Rattle.figure.proofs.Sized.{sized-≤, minus_down_sized}
 use Rattle.tables.specs.Internal.Steps.{factor_of}

@@ -1,11 +1,10 @@
 -- `steps::fill_steps` meets its contract. The loop's invariant: the table holds the sums of the states and the steps of the transitions below j.
 -- Assumes nothing.
-use Prim.Native.Nat.{◌-◌, ◌≤◌, ◌<◌}
-use mathlib.Core.Path.{◌≡◌, ◌∙◌}
+use Prim.Native.Nat.{◌<◌}
+use mathlib.Core.Path.{◌∙◌}
 use native.Mathlib.Omega.{arith}
 use lib.ListN.{length}
-use Rattle.tables.specs.Internal.Described.{described, net_of}
-use Rattle.tables.specs.Internal.Tables.{StatesHold, StepsHold}
+use Rattle.tables.specs.Internal.Described.{net_of}
 use Rattle.tables.proofs.StepsFilled.{step_sized, steps_none, steps_more, steps_all, states_stay}
 use Rattle.tables.proofs.steps.fill_steps.Goals as goal
 

@@ -1,10 +1,8 @@
-use Prim.Native.Nat.{◌-◌, ◌≤◌, ◌<◌}
-use mathlib.Core.Path.{◌≡◌, ◌∙◌}
-use native.Mathlib.Omega.{arith}
+use Prim.Native.Nat.{◌-◌, ◌≤◌}
+use mathlib.Core.Path.{◌≡◌}
 use lib.ListN.{length}
 use Rattle.tables.specs.Internal.Described.{described, net_of}
 use Rattle.tables.specs.Internal.Tables.{StatesHold, StepsHold}
-use Rattle.tables.proofs.StepsFilled.{step_sized, steps_none, steps_more, steps_all, states_stay}
 use Rattle.tables.proofs.steps.fill_steps.Given as goal
 
 abbrev pub invariant-loop-j : goal.invariant-loop-j

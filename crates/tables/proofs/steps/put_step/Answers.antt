@@ -1,6 +1,5 @@
 -- `steps::put_step` meets its contract. Assumes nothing.
 use mathlib.Core.Path.{◌∙◌}
-use borrow.Author.Rules.{rules}
 use Rattle.tables.proofs.Sections.{same_figure, step_put}
 use Rattle.tables.proofs.steps.put_step.Goals as goal
 

@@ -1,5 +1,4 @@
 -- `text::Text::with_last` meets its contract, by induction on the number of digits. Assumes nothing.
-use Prim.Native.Nat.{ℕ, ◌<◌}
 use native.Mathlib.Omega.{arith}
 use Rattle.text.proofs.Pieces.{added_none, room_before, room_last, added_last}
 use Rattle.text.proofs.Digits.{last_none, last_more}

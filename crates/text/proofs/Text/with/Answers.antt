@@ -1,8 +1,8 @@
 -- `text::Text::with` meets its contract: one byte is stored behind the others. Assumes nothing.
-use mathlib.Core.Path.{◌≡◌, sym, ◌∙◌}
+use mathlib.Core.Path.{◌≡◌}
 use native.Mathlib.Omega.{arith}
 use borrow.Author.Rules.{rules}
-use lib.ListN.{length, length-map}
+use lib.ListN.{length}
 use Rattle.text.proofs.Pieces.{added_one}
 use Rattle.text.proofs.Text.with.Goals as goal
 

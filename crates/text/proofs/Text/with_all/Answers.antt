@@ -1,11 +1,8 @@
 -- `text::Text::with_all` meets its contract. The loop's invariant: the bytes passed are written behind those at the start.
 -- The measure is what is left of the length. Assumes nothing.
-use Prim.Native.Nat.{◌-◌, ◌≤◌}
 use native.Mathlib.Omega.{arith}
 use borrow.Author.Rules.{rules}
-use lib.ListN.{length, take}
 use lib.Seq.{take_all}
-use Rattle.text.specs.Internal.Growing.{Added}
 use Rattle.text.proofs.Pieces.{added_none, added_more, room_more}
 use Rattle.text.proofs.Text.with_all.Goals as goal
 

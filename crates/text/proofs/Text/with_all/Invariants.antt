@@ -1,10 +1,6 @@
 use Prim.Native.Nat.{◌-◌, ◌≤◌}
-use native.Mathlib.Omega.{arith}
-use borrow.Author.Rules.{rules}
 use lib.ListN.{length, take}
-use lib.Seq.{take_all}
 use Rattle.text.specs.Internal.Growing.{Added}
-use Rattle.text.proofs.Pieces.{added_none, added_more, room_more}
 use Rattle.text.proofs.Text.with_all.Given as goal
 
 abbrev pub invariant-loop-i : goal.invariant-loop-i

@@ -1,5 +1,4 @@
 -- `text::Text::with_counts` meets its contract: the lines of the three counts. Assumes nothing.
-use borrow.Author.Rules.{rules}
 use Rattle.text.specs.Text.{ascii, line, decimal}
 use Rattle.text.proofs.Pieces.{RoomForThree, added_three, room_one, room_two, room_three}
 use Rattle.text.proofs.Text.with_counts.Goals as goal

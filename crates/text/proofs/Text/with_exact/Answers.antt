@@ -1,7 +1,5 @@
 -- `text::Text::with_exact` meets its contract: the line of the two marks. Assumes nothing.
 use mathlib.Core.List.{[], ◌∷◌}
-use borrow.Author.Rules.{rules}
-use Rattle.text.specs.declared.Text.{Text}
 use Rattle.text.specs.Internal.Growing.{Room}
 use Rattle.text.specs.Text.{ascii, mark_digit}
 use Rattle.text.proofs.Pieces.{added_then, added_three, room_first, room_then}

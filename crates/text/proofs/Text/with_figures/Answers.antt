@@ -1,5 +1,4 @@
 -- `text::Text::with_figures` meets its contract: the lines of the three figures. Assumes nothing.
-use borrow.Author.Rules.{rules}
 use Rattle.text.specs.Text.{ascii, line, figure_text}
 use Rattle.text.proofs.Pieces.{RoomForThree, added_three, room_one, room_two, room_three}
 use Rattle.text.proofs.Text.with_figures.Goals as goal

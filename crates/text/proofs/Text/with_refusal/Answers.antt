@@ -1,5 +1,4 @@
 -- `text::Text::with_refusal` meets its contract: the number, " at ", the place. Assumes nothing.
-use borrow.Author.Rules.{rules}
 use Rattle.text.specs.Text.{ascii, decimal}
 use Rattle.text.proofs.Pieces.{RoomForThree, added_three, room_one, room_two, room_three}
 use Rattle.text.proofs.Text.with_refusal.Goals as goal

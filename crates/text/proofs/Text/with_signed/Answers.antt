@@ -1,7 +1,6 @@
 -- `text::Text::with_signed` meets its contract: the minus sign where there is one, and the size. Assumes nothing.
 use mathlib.Core.List.{[], ◌∷◌}
 use lib.IntN.{nat_abs}
-use borrow.Author.Rules.{rules}
 use Rattle.text.specs.Text.{decimal}
 use Rattle.text.specs.Internal.Growing.{Room}
 use Rattle.text.proofs.Pieces.{added_then, room_first, room_then}

@@ -1,5 +1,4 @@
 -- `text::answers::answer_text` meets its contract, by cases of the answer. Assumes nothing.
-use borrow.Author.Rules.{rules}
 use Rattle.text.proofs.answers.answer_text.Goals as goal
 
 pub returns-in-Report : goal.returns-in-Report

@@ -1,6 +1,5 @@
 -- `text::answers::numbered` meets its contract: the line of the refusal, written from nothing. Assumes nothing.
 use mathlib.Core.List.{[], ◌∷◌}
-use borrow.Author.Rules.{rules}
 use Rattle.word.specs.Answer.{refused}
 use Rattle.tree.specs.Marks.{no_marks}
 use Rattle.text.specs.Text.{ascii, refusal_text, answer_text}

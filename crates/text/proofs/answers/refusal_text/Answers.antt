@@ -1,5 +1,4 @@
 -- `text::answers::refusal_text` meets its contract, by what `number` and `place` say. Assumes nothing.
-use borrow.Author.Rules.{rules}
 use Rattle.text.proofs.answers.refusal_text.Goals as goal
 
 pub returns : goal.returns

@@ -1,5 +1,4 @@
 -- `text::answers::report_text` meets its contract: the figures' lines, the counts' and that of the marks, written from nothing. Assumes nothing.
-use borrow.Author.Rules.{rules}
 use Rattle.word.specs.Answer.{granted}
 use Rattle.bounds.specs.declared.Report.{Report}
 use Rattle.bounds.specs.Answers.{report_of, marks_of}

@@ -1,10 +1,8 @@
 -- `text::bytes::fill` meets its contract. The loop's invariant: the first n words stand, and the bytes from `at` on are left.
 -- The measure is the number of bytes left. Assumes nothing.
-use Prim.Native.Nat.{◌-◌}
 use native.Mathlib.Omega.{arith}
-use borrow.Author.Rules.{rules}
-use lib.ListN.{length, length-drop}
-use Rattle.text.proofs.Words.{Filled, rest, filled_none, filled_more, spelled_all, spelled_last}
+use lib.ListN.{length-drop}
+use Rattle.text.proofs.Words.{rest, filled_none, filled_more, spelled_all, spelled_last}
 use Rattle.text.proofs.bytes.fill.Goals as goal
 
 pub loop-at-init : goal.loop-at-init

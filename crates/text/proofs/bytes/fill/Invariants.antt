@@ -1,8 +1,6 @@
 use Prim.Native.Nat.{◌-◌}
-use native.Mathlib.Omega.{arith}
-use borrow.Author.Rules.{rules}
-use lib.ListN.{length, length-drop}
-use Rattle.text.proofs.Words.{Filled, rest, filled_none, filled_more, spelled_all, spelled_last}
+use lib.ListN.{length}
+use Rattle.text.proofs.Words.{Filled}
 use Rattle.text.proofs.bytes.fill.Given as goal
 
 abbrev pub invariant-loop-at : goal.invariant-loop-at

@@ -2,7 +2,6 @@
 -- that to all of them, and the laws of the text are proved. Assumes nothing.
 use mathlib.Core.Path.{refl, sym}
 use native.Mathlib.Omega.{arith}
-use borrow.Author.Rules.{rules}
 use lib.Seq.{length-take-le}
 use Rattle.text.proofs.Faithful.{faithful_text}
 use Rattle.text.proofs.Lending.{row_rules, printed_enough}

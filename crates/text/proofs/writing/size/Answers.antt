@@ -1,5 +1,4 @@
 -- `text::writing::size` meets its contract. Assumes nothing.
-use borrow.Author.Rules.{rules}
 use Rattle.text.proofs.Signed.{below_zero, from_zero, sized_fits, sized_cast, sized_natAbs}
 use Rattle.text.proofs.writing.size.Goals as goal
 

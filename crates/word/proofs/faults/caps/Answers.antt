@@ -1,7 +1,6 @@
 -- `word::faults::caps` meets its contract: each return says the first fault that holds. Assumes nothing.
 use Rattle.word.specs.Faults.{caps_faults}
 use Rattle.word.proofs.FirstFault.{LeftOf, past, found, fine, no_word, a_word, differs_true, differs_false, outside_is}
-use borrow.Author.Rules.{rules}
 use Rattle.word.proofs.faults.caps.Goals as goal
 
 pub returns-then-part-eq0 : goal.returns-then-part-eq0

@@ -1,6 +1,5 @@
 -- `word::faults::end` meets its contract. Assumes nothing.
 use Rattle.word.proofs.FirstFault.{past, found, fine, no_word, a_word, differs_true, differs_false}
-use borrow.Author.Rules.{rules}
 use Rattle.word.proofs.faults.end.Goals as goal
 
 pub returns-then-part-eq0 : goal.returns-then-part-eq0

@@ -1,11 +1,7 @@
 -- `word::faults::head` meets its contract: each return says the first fault that holds. Assumes nothing.
-use mathlib.Core.Bool.{Bool}
-use mathlib.Core.Path.{◌≡◌, sym, ap₂, ◌∙◌}
-use lib.ListN.{get_or}
-use Rattle.word.specs.Words.{states_field, start_field}
+use mathlib.Core.Path.{sym, ap₂, ◌∙◌}
 use Rattle.word.specs.Faults.{outside, head_faults}
 use Rattle.word.proofs.FirstFault.{LeftOf, past, found, fine, no_word, a_word, differs_true, differs_false, outside_is}
-use borrow.Author.Rules.{rules}
 use Rattle.word.proofs.faults.head.Goals as goal
 
 pub returns-then-part-eq0 : goal.returns-then-part-eq0

@@ -8,7 +8,6 @@ use borrow.Author.Tests.{le-leb, lt-leb}
 use Rattle.word.specs.Faults.{named_faults}
 use Rattle.word.specs.Internal.Tests.{first_fault}
 use Rattle.word.proofs.FirstFault.{Left, past, found, fine, untested, differs_true, differs_false, outside_is}
-use borrow.Author.Rules.{rules}
 use Rattle.word.proofs.faults.named.Goals as goal
 
 -- what is left to be tested after n tests that do not hold

@@ -2,7 +2,6 @@
 use Rattle.word.specs.Faults.{quantity_faults}
 use Rattle.word.proofs.FirstFault.{LeftOf, past, found, fine, no_word, a_word, differs_true, differs_false, or_first, or_second, outside_is}
 use borrow.Author.Tests.{lt-ltb, le-ltb}
-use borrow.Author.Rules.{rules}
 use Rattle.word.proofs.faults.quantity.Goals as goal
 
 pub returns-then-part-eq0 : goal.returns-then-part-eq0

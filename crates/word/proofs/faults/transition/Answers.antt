@@ -5,7 +5,6 @@ use lib.ListN.{drop}
 use borrow.Author.Tests.{eq-eqb, ne_eqb}
 use Rattle.word.specs.Internal.Tests.{first_fault, field_faults}
 use Rattle.word.proofs.FirstFault.{Left, past, found, fine, untested, differs_true, differs_false, or_first, or_second, outside_is}
-use borrow.Author.Rules.{rules}
 use Rattle.word.proofs.faults.transition.Goals as goal
 
 -- what is left to be tested after n tests that do not hold

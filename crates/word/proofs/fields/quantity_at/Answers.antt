@@ -2,7 +2,6 @@
 use mathlib.Core.Path.{sym, ap}
 use lib.ListN.{get_or-eq_default}
 use native.Mathlib.Omega.{arith}
-use borrow.Author.Rules.{rules}
 use Rattle.word.specs.Words.{quantity}
 use Rattle.word.proofs.fields.quantity_at.Goals as goal
 

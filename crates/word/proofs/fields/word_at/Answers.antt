@@ -2,7 +2,6 @@
 use mathlib.Core.Path.{sym}
 use lib.ListN.{get_or-eq_default}
 use native.Mathlib.Omega.{arith}
-use borrow.Author.Rules.{rules}
 use Rattle.word.proofs.fields.word_at.Goals as goal
 
 pub returns-then-part-eq0 : goal.returns-then-part-eq0
