@@ -15,18 +15,18 @@ ROOT = Path(__file__).resolve().parent.parent
 CRATES = ROOT / "crates"
 # the crates whose public functions makers call
 OPEN = ["orprob", "bounds", "text", "embed"]
-MODULE = re.compile(r"Rattle·(\w+)(?:·\w+)?\.(specs|proofs)\.(.+)")
-USE = re.compile(r"^(?:pub )?(ghost )?use ([^\s;{]+?)(?:\.\{([^}]*)\})?(?: as (\S+?))?;?\s*$", re.M)
+MODULE = re.compile(r"Rattle\.(\w+)\.(specs|proofs)(?:\.(.+))?")
+USE = re.compile(r"^(?:(?:pub|unfoldable) )*(ghost )?use ([^\s;{]+?)(?:\.\{([^}]*)\})?(?: as (\S+?))?;?\s*$", re.M)
 FUNCTION = re.compile(r"^[ \t]*pub (?:extern \"C\" )?fn (\w+)", re.M)
-CLAUSE = re.compile(r"^\s*(?:requires|ensures) \{(.*)", re.M)
+CLAUSE = re.compile(r"\b(?:(?:requires|ensures)\*?(?:\s+\w+)?|ghost\s+\w+:)\s*$")
 
 
 def page(module):
     """The file of a module of one of the crates; None for the toolchain's own, and for the types that are made from the code."""
     m = MODULE.fullmatch(module)
-    if not m or m[3].startswith("declared."):
+    if not m or not (CRATES / m[1]).is_dir() or (m[3] or "").startswith("declared."):
         return None
-    return CRATES / m[1] / m[2] / (m[3].replace(".", "/") + ".antt")
+    return CRATES / m[1] / m[2] / ((m[3] or "Lib").replace(".", "/") + ".antt")
 
 
 def uses(text, ghost):
@@ -49,14 +49,39 @@ def closure(pages):
     return seen
 
 
+def behind(text, at, opened, closed):
+    """The place behind the bracket that closes the one at a place."""
+    depth = 0
+    for place in range(at, len(text)):
+        depth += (text[place] == opened) - (text[place] == closed)
+        if depth == 0:
+            return place + 1
+    sys.exit(f"closure: {opened} is not closed: {text[at : at + 60]}")
+
+
+def clauses(text, at):
+    """What stands in the braces of the clauses of the function whose parameters begin behind a place; its body ends them."""
+    at = behind(text, text.index("(", at), "(", ")")
+    while True:
+        brace = text.index("{", at)
+        if not CLAUSE.search(text[at:brace]):
+            return
+        at = behind(text, brace, "{", "}")
+        yield text[brace + 1 : at - 1]
+
+
+def is_named(name, words):
+    """Whether a name stands among the words; of an operator one of its parts does."""
+    return bool(words.intersection(filter(None, name.split("◌"))))
+
+
 def contracts(source):
     """Each public function of a file with the pages that its contract names."""
-    text = source.read_text(encoding="utf-8")
+    text = re.sub(r"//.*$", "", source.read_text(encoding="utf-8"), flags=re.M)
     named = [(page(module), names) for module, names in uses(text, True)]
     for m in FUNCTION.finditer(text):
-        head = re.split(r"\n\s*\{\n", text[m.start() :])[0]
-        words = set(re.split(r"[\s(){}.,⌜⌝]+", " ".join(CLAUSE.findall(head.replace("\n        ", " ")))))
-        yield m[1], [p for p, names in named if p and words & set(names)]
+        words = set(re.split(r"[\s(){}.,;⌜⌝«»]+", " ".join(clauses(text, m.end()))))
+        yield m[1], [p for p, names in named if p and any(is_named(name, words) for name in names)]
 
 
 def short(path):
@@ -69,7 +94,8 @@ def inward():
     sources = [(at, True) for at in sorted(CRATES.glob("*/src/*.rt"))]
     for at, ghost in pages + sources:
         for module, _ in uses(at.read_text(encoding="utf-8"), ghost):
-            if ".proofs." in module or "·proofs." in module:
+            taken = page(module)
+            if taken and "proofs" in taken.relative_to(CRATES).parts:
                 yield f"{short(at)} takes {module}"
 
 
