@@ -32,7 +32,7 @@ REQUEST = re.compile(r"^\*\*Item (\d+)\. [^*]*\*\*(.*)$", re.M)
 NOTES = "docs/landings/item-*.md"
 FILE = re.compile(r"[\w+.-]+(/[\w+.-]+)*/([\w+.-]+\.\w+|stdin|stdout)")
 STANDS_FOR = re.compile(r"(^|/)\+?(NAME|MODULE|TYPE|FUNCTION|METHOD|SUBJECT|LABEL)[/.]")
-PART_OF_NAME = r"[\w\-′ᶠ·]"
+PART_OF_NAME = r"[\w\-'ᶠ◌]"
 
 
 def found(path):
@@ -61,7 +61,7 @@ def declared(name, path, text):
         text = comments_out(text, "//")
         kinds = rf"\b(?:fn|struct|enum|const|type|mod|let|let mut) {whole(name)}"
         fields = rf"^\s*(?:pub )?{whole(name)}(?::|[,(])"
-        clauses = rf"\b(?:requires|ensures) \{{.*{whole(name)}"
+        clauses = rf"\b(?:requires|ensures)\*?(?: \w+)? \{{.*{whole(name)}"
         return any(re.search(r, text, re.M) for r in (kinds, fields, clauses))
     return re.search(whole(name), text) is not None
 
