@@ -91,6 +91,18 @@ module _ (l : Lent) (a : Asked) (h : Held) (x : Exit) where
     pub counted : KeptCounted after rows
     pub names_kept : NamesKept h.rows rows
 
+-- ---- what the walk's proof knows once the exit was read, and once it was judged
+
+pub turn_of : {l : Lent} {a : Asked} {h : Held} {x : Exit} → Ready l a → AtExit l a h → h.i < exit_count l.index a.tip.state
+    → (h.made.steps ≡ a.task.budget → ⊥) → ExitOf l a.tip h.i x → Turn l a h x
+turn_of ready kept more some exit = record { ready = ready; kept = kept; more = more; some = some; exit = exit }
+
+pub judged_as : {l : Lent} {a : Asked} {h : Held} {x : Exit} {ends : Bool} {n : ℕ} (o : Coded) → Turn l a h x → ends ≡ named_end l.index x.tip.state n
+    → n ≡ exit_count l.index x.tip.state
+    → outcome_of o ≡ judged ends n (get_or h.entered x.tip.state 0) (a.left - 1) x.tip.upper a.task.level a.task.entry_limit
+    → outcome_of o ≡ judged_there l a h x
+judged_as _ _ ends exits is = rw (ends, exits) at is
+
 -- ---- the exit
 
 module _ {l : Lent} {a : Asked} {h : Held} {x : Exit} (w : Turn l a h x) where
