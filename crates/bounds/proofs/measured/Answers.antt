@@ -12,22 +12,27 @@ name_rows-needed-requires c = let a = accepts_of c.read-r.ensures.answer c.in-Ac
 
 pub returns-then-lent-needed : goal.returns-then-lent-needed
 returns-then-lent-needed c =
-    let a = accepts_of c.read-r.ensures.answer c.in-Accepted.is in measured_few _ _ _ c.clear-then-lent-needed.ensures (reads_described a) c.name_rows-needed.ensures.count_is c.if-lent-needed.true
+    let a = accepts_of c.read-r.ensures.answer c.in-Accepted.is in measured_few _ _ _ c.clear-then-lent-needed.ensures
+    (reads_described a) c.name_rows-needed.ensures.count_is c.if-lent-needed.true
 
 pub walked-c-requires : goal.walked-c-requires
 walked-c-requires c =
-    let a = accepts_of c.read-r.ensures.answer c.in-Accepted.is in record { indexes = (accepted_indexes a, accepted_summary a, accepted_budget a); no_totals = c.name_rows-needed.ensures.no_totals }
+    let a = accepts_of c.read-r.ensures.answer c.in-Accepted.is in
+    record { indexes = (accepted_indexes a, accepted_summary a, accepted_budget a); no_totals = c.name_rows-needed.ensures.no_totals }
 
 pub name_rows-requires : goal.name_rows-requires
 name_rows-requires c = let a = accepts_of c.read-r.ensures.answer c.in-Accepted.is in (accepted_indexes a, accepted_summary a)
 
 pub returns-then-budget-c : goal.returns-then-budget-c
 returns-then-budget-c c =
-    let a = accepts_of c.read-r.ensures.answer c.in-Accepted.is in measured_over _ _ _ (reads_described a) (omega (arith, c.name_rows-needed.ensures.count_is, c.if-lent-needed.false)) _ c.walked-c.ensures.ends c.name_rows.ensures (lt-ltb _ _ c.if-budget-c.true)
+    let a = accepts_of c.read-r.ensures.answer c.in-Accepted.is in measured_over _ _ _ (reads_described a)
+    (omega (arith, c.name_rows-needed.ensures.count_is, c.if-lent-needed.false)) _ c.walked-c.ensures.ends c.name_rows.ensures
+    (lt-ltb _ _ c.if-budget-c.true)
 
 pub reported-requires : goal.reported-requires
 reported-requires c =
-    let a = accepts_of c.read-r.ensures.answer c.in-Accepted.is in table_most c.walked-c.ensures.counted.totals (le_trans c.if-budget-c.false (accepted_budget a))
+    let a = accepts_of c.read-r.ensures.answer c.in-Accepted.is in table_most c.walked-c.ensures.counted.totals
+    (le_trans c.if-budget-c.false (accepted_budget a))
 
 pub returns-in-Refused : goal.returns-in-Refused
 returns-in-Refused c =
@@ -35,4 +40,7 @@ returns-in-Refused c =
 
 pub returns-else-budget-c : goal.returns-else-budget-c
 returns-else-budget-c c =
-    let a = accepts_of c.read-r.ensures.answer c.in-Accepted.is in measured_report _ _ _ (reads_described a) (omega (arith, c.name_rows-needed.ensures.count_is, c.if-lent-needed.false)) _ c.walked-c.ensures.ends c.name_rows-needed.ensures c.walked-c.ensures.names_kept c.walked-c.ensures.counted (le_trans c.if-budget-c.false (accepted_budget a)) c.reported.result c.reported.ensures.0 c.reported.ensures.1 (le-ltb _ _ c.if-budget-c.false)
+    let a = accepts_of c.read-r.ensures.answer c.in-Accepted.is in measured_report _ _ _ (reads_described a)
+    (omega (arith, c.name_rows-needed.ensures.count_is, c.if-lent-needed.false)) _ c.walked-c.ensures.ends c.name_rows-needed.ensures
+    c.walked-c.ensures.names_kept c.walked-c.ensures.counted
+    (le_trans c.if-budget-c.false (accepted_budget a)) c.reported.result c.reported.ensures.0 c.reported.ensures.1 (le-ltb _ _ c.if-budget-c.false)

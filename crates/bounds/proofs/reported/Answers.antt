@@ -30,4 +30,21 @@ is_kept-requires-2 c = upper_place
 pub returns : goal.returns
 unfolding finish finish_marks marks_in
 returns c =
-    let high = ap₂ sum_to_nine_keeps c.total_at-died.ensures c.total_at-cut_off.ensures in (λ i. record { lower = (ap (λ r. r.figure) c.to_nine_down_telling-low.ensures ∙ ap to_nine_down c.total_at-lowers.ensures) i; upper = (ap (λ r. r.figure) c.sum_to_nine_up_telling-high.ensures ∙ ap₂ sum_to_nine_up c.total_at-died.ensures c.total_at-cut_off.ensures) i; cut = (c.to_nine_up-cut.ensures ∙ ap to_nine_up c.total_at-cut_off.ensures) i; deaths = c.args.c.deaths; cuts = c.args.c.cuts; steps = c.args.c.steps }, λ i. record { lower = (c.both-lower_exact.ensures ∙ ap₂ ◌&&◌ c.is_kept.ensures (ap (λ r. r.kept) c.to_nine_down_telling-low.ensures ∙ ap to_nine_keeps c.total_at-lowers.ensures)) i; upper = (c.both-upper_exact.ensures ∙ ap₂ ◌&&◌ c.is_kept-2.ensures (ap (λ r. r.kept) c.sum_to_nine_up_telling-high.ensures ∙ high)) i })
+    let high = ap₂ sum_to_nine_keeps c.total_at-died.ensures c.total_at-cut_off.ensures in (
+      λ i. record {
+        lower = (ap (λ r. r.figure) c.to_nine_down_telling-low.ensures ∙ ap to_nine_down c.total_at-lowers.ensures) i;
+        upper =
+            (ap (λ r. r.figure) c.sum_to_nine_up_telling-high.ensures ∙ ap₂ sum_to_nine_up c.total_at-died.ensures c.total_at-cut_off.ensures) i;
+        cut =
+            (c.to_nine_up-cut.ensures ∙ ap to_nine_up c.total_at-cut_off.ensures) i;
+        deaths = c.args.c.deaths;
+        cuts = c.args.c.cuts;
+        steps = c.args.c.steps;
+      },
+      λ i. record {
+        lower = (c.both-lower_exact.ensures ∙ ap₂ ◌&&◌ c.is_kept.ensures
+            (ap (λ r. r.kept) c.to_nine_down_telling-low.ensures ∙ ap to_nine_keeps c.total_at-lowers.ensures)) i;
+        upper =
+            (c.both-upper_exact.ensures ∙ ap₂ ◌&&◌ c.is_kept-2.ensures (ap (λ r. r.kept) c.sum_to_nine_up_telling-high.ensures ∙ high)) i;
+      },
+    )

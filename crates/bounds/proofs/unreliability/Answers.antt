@@ -8,4 +8,5 @@ use Rattle.bounds.proofs.unreliability.Goals as goal
 
 pub returns : goal.returns
 returns c =
-    let same = thousand_rows_enough _ _ 1000 (le_refl 1000) in promise _ _ _ _ c.measured.ensures.words_unchanged (c.measured.ensures.answer_is ∙ same) (c.measured.ensures.marks_are ∙ ap (marks_with _ _) same)
+    let same = thousand_rows_enough _ _ 1000 (le_refl 1000) in promise _ _ _ _ c.measured.ensures.words_unchanged (c.measured.ensures.answer_is ∙ same)
+    (c.measured.ensures.marks_are ∙ ap (marks_with _ _) same)

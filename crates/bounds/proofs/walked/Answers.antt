@@ -13,8 +13,10 @@ figure_of-requires-2 c = prune_scale c.requires.indexes.0 c.requires.indexes.1
 
 pub walk-requires : goal.walk-requires
 walk-requires c =
-    walk_ready c.requires.indexes.0 c.requires.indexes.1 c.fill.ensures c.figure_of.ensures c.figure_of-2.ensures c.of_whole.ensures _ c.requires.indexes.2 _ c.nothing.ensures _ c.requires.no_totals
+    walk_ready c.requires.indexes.0 c.requires.indexes.1 c.fill.ensures c.figure_of.ensures c.figure_of-2.ensures c.of_whole.ensures _ c.requires.indexes.2 _
+    c.nothing.ensures _ c.requires.no_totals
 
 pub returns : goal.returns
 returns c =
-    walk_tree c.requires.indexes.0 c.requires.indexes.1 c.fill.ensures c.figure_of.ensures c.figure_of-2.ensures c.of_whole.ensures _ c.requires.indexes.2 _ c.nothing.ensures _ c.requires.no_totals c.walk.ensures
+    walk_tree c.requires.indexes.0 c.requires.indexes.1 c.fill.ensures c.figure_of.ensures c.figure_of-2.ensures c.of_whole.ensures _ c.requires.indexes.2 _
+    c.nothing.ensures _ c.requires.no_totals c.walk.ensures

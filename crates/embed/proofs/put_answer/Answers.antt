@@ -5,7 +5,12 @@ use Rattle.embed.proofs.put_answer.Goals as goal
 
 pub returns-in-Refused : goal.returns-in-Refused
 returns-in-Refused c =
-    rw c.in-Refused.is (record { number_is = c.number.ensures; numbers_are = ap (λ x. x ∷ 0 ∷ 0 ∷ 0 ∷ 0 ∷ 0 ∷ 0 ∷ 0 ∷ 0 ∷ []) c.place.ensures; powers_are = refl })
+    rw c.in-Refused.is (record {
+      number_is = c.number.ensures;
+      numbers_are = ap (λ x. x ∷ 0 ∷ 0 ∷ 0 ∷ 0 ∷ 0 ∷ 0 ∷ 0 ∷ 0 ∷ []) c.place.ensures;
+      powers_are =
+          refl;
+    })
 
 pub returns-in-Report : goal.returns-in-Report
 returns-in-Report c =

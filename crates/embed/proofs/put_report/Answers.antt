@@ -9,4 +9,11 @@ use Rattle.embed.proofs.put_report.Goals as goal
 
 pub returns : goal.returns
 returns c =
-    let l : SFits w32 c.args.r.lower.power = record { sfits = omega (arith, c.struct_told-1.given) } in let u : SFits w32 c.args.r.upper.power = record { sfits = omega (arith, c.struct_told-2-1.given) } in let k : SFits w32 c.args.r.cut.power = record { sfits = omega (arith, c.struct_told-3-1.given) } in record { values_after = ap₂ (λ a b. 0 ∷ c.args.r.lower.digits ∷ c.args.r.upper.digits ∷ c.args.r.cut.digits ∷ c.args.r.deaths ∷ c.args.r.cuts ∷ c.args.r.steps ∷ a ∷ b ∷ []) c.mark.ensures c.mark-2.ensures; powers_after = rw (to_z-of_z l, to_z-of_z u, to_z-of_z k) at c.put_powers.ensures }
+    let l : SFits w32 c.args.r.lower.power = record { sfits = omega (arith, c.struct_told-1.given) } in let u : SFits w32 c.args.r.upper.power =
+    record { sfits = omega (arith, c.struct_told-2-1.given) } in let k : SFits w32 c.args.r.cut.power =
+    record { sfits = omega (arith, c.struct_told-3-1.given) } in
+    record {
+      values_after = ap₂ (λ a b. 0 ∷ c.args.r.lower.digits ∷ c.args.r.upper.digits ∷ c.args.r.cut.digits ∷ c.args.r.deaths ∷ c.args.r.cuts ∷
+          c.args.r.steps ∷ a ∷ b ∷ []) c.mark.ensures c.mark-2.ensures;
+      powers_after = rw (to_z-of_z l, to_z-of_z u, to_z-of_z k) at c.put_powers.ensures;
+    }

@@ -11,20 +11,40 @@ returns-then-words-gt-MOST_WORDS c =
 
 pub returns-then-budget-lt1 : goal.returns-then-budget-lt1
 returns-then-budget-lt1 c =
-    record { words_unchanged = refl; answer = record { reads = read_bad_budget _ _ c.if-words-gt-MOST_WORDS.false (below_test 1 1000000 _ c.if-budget-lt1.true) } }
+    record {
+      words_unchanged = refl;
+      answer = record {
+        reads = read_bad_budget _ _ c.if-words-gt-MOST_WORDS.false
+            (below_test 1 1000000 _ c.if-budget-lt1.true);
+      };
+    }
 
 pub returns-then-budget-gt1000000 : goal.returns-then-budget-gt1000000
 returns-then-budget-gt1000000 c =
-    record { words_unchanged = refl; answer = record { reads = read_bad_budget _ _ c.if-words-gt-MOST_WORDS.false (above_test 1 1000000 _ c.if-budget-gt1000000.true) } }
+    record {
+      words_unchanged = refl;
+      answer = record {
+        reads = read_bad_budget _ _ c.if-words-gt-MOST_WORDS.false
+            (above_test 1 1000000 _ c.if-budget-gt1000000.true);
+      };
+    }
 
 pub name_states-requires : goal.name_states-requires
 name_states-requires c =
-    let called : Called c.args.words.now c.args.budget = record { words_few = c.if-words-gt-MOST_WORDS.false; budget_low = c.if-budget-lt1.false; budget_high = c.if-budget-gt1000000.false } in
+    let called : Called c.args.words.now c.args.budget = record {
+      words_few = c.if-words-gt-MOST_WORDS.false;
+      budget_low = c.if-budget-lt1.false;
+      budget_high = c.if-budget-gt1000000.false;
+    } in
     record { opened = rw c.in-Opened.is at c.«open».ensures; words_len_bound = called.words_few }
 
 pub list-requires : goal.list-requires
 list-requires c =
-    let called : Called c.args.words.now c.args.budget = record { words_few = c.if-words-gt-MOST_WORDS.false; budget_low = c.if-budget-lt1.false; budget_high = c.if-budget-gt1000000.false } in
+    let called : Called c.args.words.now c.args.budget = record {
+      words_few = c.if-words-gt-MOST_WORDS.false;
+      budget_low = c.if-budget-lt1.false;
+      budget_high = c.if-budget-gt1000000.false;
+    } in
     record { begun = rw c.in-From.is at c.name_states.ensures; words_len_bound = called.words_few }
 
 pub concluded-requires : goal.concluded-requires
@@ -32,20 +52,36 @@ concluded-requires c = rw c.in-Fine.is at c.list.ensures
 
 pub returns-in-Refused : goal.returns-in-Refused
 returns-in-Refused c =
-    let called : Called c.args.words.now c.args.budget = record { words_few = c.if-words-gt-MOST_WORDS.false; budget_low = c.if-budget-lt1.false; budget_high = c.if-budget-gt1000000.false } in
+    let called : Called c.args.words.now c.args.budget = record {
+      words_few = c.if-words-gt-MOST_WORDS.false;
+      budget_low = c.if-budget-lt1.false;
+      budget_high = c.if-budget-gt1000000.false;
+    } in
     record { words_unchanged = refl; answer = record { reads = read_bad_word _ _ called _ _ (rw c.in-Refused.is at c.«open».ensures) } }
 
 pub returns-in-Refused-name_states : goal.returns-in-Refused-name_states
 returns-in-Refused-name_states c =
-    let called : Called c.args.words.now c.args.budget = record { words_few = c.if-words-gt-MOST_WORDS.false; budget_low = c.if-budget-lt1.false; budget_high = c.if-budget-gt1000000.false } in
+    let called : Called c.args.words.now c.args.budget = record {
+      words_few = c.if-words-gt-MOST_WORDS.false;
+      budget_low = c.if-budget-lt1.false;
+      budget_high = c.if-budget-gt1000000.false;
+    } in
     record { words_unchanged = refl; answer = record { reads = read_bad_word _ _ called _ _ (rw c.in-Refused-name_states.is at c.name_states.ensures) } }
 
 pub returns-in-Refused-list : goal.returns-in-Refused-list
 returns-in-Refused-list c =
-    let called : Called c.args.words.now c.args.budget = record { words_few = c.if-words-gt-MOST_WORDS.false; budget_low = c.if-budget-lt1.false; budget_high = c.if-budget-gt1000000.false } in
+    let called : Called c.args.words.now c.args.budget = record {
+      words_few = c.if-words-gt-MOST_WORDS.false;
+      budget_low = c.if-budget-lt1.false;
+      budget_high = c.if-budget-gt1000000.false;
+    } in
     let k = called in record { words_unchanged = refl; answer = record { reads = read_bad_word _ _ k _ _ (rw c.in-Refused-list.is at c.list.ensures) } }
 
 pub returns-in-Fine : goal.returns-in-Fine
 returns-in-Fine c =
-    let called : Called c.args.words.now c.args.budget = record { words_few = c.if-words-gt-MOST_WORDS.false; budget_low = c.if-budget-lt1.false; budget_high = c.if-budget-gt1000000.false } in
+    let called : Called c.args.words.now c.args.budget = record {
+      words_few = c.if-words-gt-MOST_WORDS.false;
+      budget_low = c.if-budget-lt1.false;
+      budget_high = c.if-budget-gt1000000.false;
+    } in
     let k = called in record { words_unchanged = refl; answer = c.concluded.ensures _ k.words_few k.budget_low k.budget_high }

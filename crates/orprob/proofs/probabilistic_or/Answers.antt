@@ -18,4 +18,5 @@ both_sides-requires c = (c.if-count-gt-MOST_PAIRS.false, λ i h. c.first_wrong-w
 
 pub returns : goal.returns
 returns c =
-    all_right _ _ c.if-count-lt1.false c.if-count-gt-MOST_PAIRS.false _ c.first_wrong-wrong.ensures c.if-wrong-count.false _ c.both_sides.ensures.lower_value c.both_sides.ensures.upper_value
+    all_right _ _ c.if-count-lt1.false c.if-count-gt-MOST_PAIRS.false _ c.first_wrong-wrong.ensures c.if-wrong-count.false _ c.both_sides.ensures.lower_value
+    c.both_sides.ensures.upper_value

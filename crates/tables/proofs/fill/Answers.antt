@@ -14,7 +14,13 @@ fill_states-requires c =
 
 pub fill_steps-requires : goal.fill_steps-requires
 fill_steps-requires c =
-    record { step_ready = (steps_ready c.requires.indexes.0 c.requires.indexes.1 c.figure_of-time.ensures c.fill_states.ensures.0, transitions_are c.requires.indexes.0 c.requires.indexes.1 c.transition_count-count.ensures); table_len = c.fill_states.ensures.1 }
+    record {
+      step_ready = (
+        steps_ready c.requires.indexes.0 c.requires.indexes.1 c.figure_of-time.ensures c.fill_states.ensures.0,
+        transitions_are c.requires.indexes.0 c.requires.indexes.1 c.transition_count-count.ensures,
+      );
+      table_len = c.fill_states.ensures.1;
+    }
 
 pub returns : goal.returns
 returns c = c.fill_steps.ensures

@@ -21,8 +21,10 @@ pub overflow_add-total : goal.overflow_add-total
 overflow_add-total c = omega (arith, c.exit_count-total.ensures)
 
 pub loop-s-preserved : goal.loop-s-preserved
-loop-s-preserved c =
-    (more _ c.loop-s.s c.loop-s.total c.exit_count-total.result c.loop-s.invariant.0 c.exit_count-total.ensures.0, (omega arith, omega (arith, c.exit_count-total.ensures)))
+loop-s-preserved c = (
+  more _ c.loop-s.s c.loop-s.total c.exit_count-total.result c.loop-s.invariant.0 c.exit_count-total.ensures.0,
+  (omega arith, omega (arith, c.exit_count-total.ensures)),
+)
 
 pub returns : goal.returns
 returns c = c.loop-s.invariant.0 ∙ ap (exit_total c.args.index.now) (le_antisymm c.loop-s.invariant.1.0 (omega arith))

@@ -11,11 +11,16 @@ mark_upper-requires c =
 
 pub mark_lower-requires : goal.mark_lower-requires
 mark_lower-requires c =
-    record { last_step = c.requires.last_step; table_gathered = (mark_gathered upper_place c.mark_upper.ensures c.requires.table_gathered.0, c.requires.table_gathered.1) }
+    record {
+      last_step = c.requires.last_step;
+      table_gathered =
+          (mark_gathered upper_place c.mark_upper.ensures c.requires.table_gathered.0, c.requires.table_gathered.1);
+    }
 
 pub returns-then-dead : goal.returns-then-dead
 returns-then-dead c =
-    let p = path_with (net_of c.args.words.now) c.args.path c.args.tip c.args.exit in marked_by _ p c.args.lower c.args.exit.tip.upper c.if-dead.true (death_marked _ p c.args.lower c.args.exit.tip.upper c.mark_upper.ensures c.mark_lower.ensures)
+    let p = path_with (net_of c.args.words.now) c.args.path c.args.tip c.args.exit in marked_by _ p c.args.lower c.args.exit.tip.upper c.if-dead.true
+    (death_marked _ p c.args.lower c.args.exit.tip.upper c.mark_upper.ensures c.mark_lower.ensures)
 
 pub mark_upper-requires-2 : goal.mark_upper-requires-2
 mark_upper-requires-2 c =
@@ -23,4 +28,5 @@ mark_upper-requires-2 c =
 
 pub returns : goal.returns
 returns c =
-    let p = path_with (net_of c.args.words.now) c.args.path c.args.tip c.args.exit in marked_by _ p c.args.lower c.args.exit.tip.upper c.if-dead.false (cut_marked _ p c.args.lower c.args.exit.tip.upper c.mark_upper-2.ensures)
+    let p = path_with (net_of c.args.words.now) c.args.path c.args.tip c.args.exit in marked_by _ p c.args.lower c.args.exit.tip.upper c.if-dead.false
+    (cut_marked _ p c.args.lower c.args.exit.tip.upper c.mark_upper-2.ensures)

@@ -24,7 +24,9 @@ note_mark-requires c = (lower_place, c.requires.table_gathered.0.size)
 
 pub returns-then-is_kept : goal.returns-then-is_kept
 returns-then-is_kept c =
-    let p = path_with (net_of c.args.words.now) c.args.path c.args.tip c.args.exit in noted_as (c.lower_holds-kept.ensures ∙ ap (λ f. lower_kept (net_of c.args.words.now) p && total_keeps f c.args.lower) c.total_at-total.ensures) c.note_mark.ensures
+    let p = path_with (net_of c.args.words.now) c.args.path c.args.tip c.args.exit in noted_as
+    (c.lower_holds-kept.ensures ∙ ap (λ f. lower_kept (net_of c.args.words.now) p && total_keeps f c.args.lower) c.total_at-total.ensures)
+    c.note_mark.ensures
 
 pub returns-else-is_kept : goal.returns-else-is_kept
 returns-else-is_kept c = mark_lost _ 1008 (sym c.is_kept.ensures ∙ c.if-is_kept.false)

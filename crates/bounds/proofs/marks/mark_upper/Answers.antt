@@ -18,15 +18,21 @@ pub total_at-total-requires : goal.total_at-total-requires
 total_at-total-requires c = upper_place_inside c.requires.table_gathered.2
 
 pub upper_holds-kept-requires : goal.upper_holds-kept-requires
-upper_holds-kept-requires c =
-    (c.requires.last_step, rw c.total_at-total.ensures (upper_total_fits c.requires.table_gathered.2 c.requires.table_gathered.0), sized-≤ (lit≤ tt) c.requires.table_gathered.1)
+upper_holds-kept-requires c = (
+  c.requires.last_step,
+  rw c.total_at-total.ensures (upper_total_fits c.requires.table_gathered.2 c.requires.table_gathered.0),
+  sized-≤
+      (lit≤ tt) c.requires.table_gathered.1,
+)
 
 pub note_mark-requires : goal.note_mark-requires
 note_mark-requires c = (upper_place, c.requires.table_gathered.0.size)
 
 pub returns-then-is_kept : goal.returns-then-is_kept
 returns-then-is_kept c =
-    let p = path_with (net_of c.args.words.now) c.args.path c.args.tip c.args.exit in noted_as (c.upper_holds-kept.ensures ∙ ap (λ f. upper_kept (net_of c.args.words.now) p && total_keeps f c.args.exit.tip.upper) c.total_at-total.ensures) c.note_mark.ensures
+    let p = path_with (net_of c.args.words.now) c.args.path c.args.tip c.args.exit in noted_as
+    (c.upper_holds-kept.ensures ∙ ap (λ f. upper_kept (net_of c.args.words.now) p && total_keeps f c.args.exit.tip.upper) c.total_at-total.ensures)
+    c.note_mark.ensures
 
 pub returns-else-is_kept : goal.returns-else-is_kept
 returns-else-is_kept c = mark_lost _ 1009 (sym c.is_kept.ensures ∙ c.if-is_kept.false)

@@ -15,4 +15,5 @@ fitted-requires c = quantity_power c.args.p c.requires c.negative-power.ensures
 pub returns : goal.returns
 unfolding of_quantity quantity_keeps
 returns c =
-    told_by 8 _ true (quantity_answer c.args.p c.requires c.negative-power.ensures true c.args.c c.wide-n.ensures c.fitted-figure.ensures) (quantity_answer c.args.p c.requires c.negative-power.ensures false c.args.c c.wide-n.ensures c.fitted.ensures) c.told.ensures
+    told_by 8 _ true (quantity_answer c.args.p c.requires c.negative-power.ensures true c.args.c c.wide-n.ensures c.fitted-figure.ensures)
+    (quantity_answer c.args.p c.requires c.negative-power.ensures false c.args.c c.wide-n.ensures c.fitted.ensures) c.told.ensures

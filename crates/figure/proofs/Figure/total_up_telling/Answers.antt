@@ -16,4 +16,5 @@ plus-requires c = (eighteen, sized_more c.requires.0, rw c.widened-wide.ensures 
 pub returns : goal.returns
 unfolding total_up total_keeps
 returns c =
-    told_by 17 _ true (total_answer c.requires.1 true c.args.self c.widened-wide.ensures c.plus-figure.ensures) (total_answer c.requires.1 false c.args.self c.widened-wide.ensures c.plus.ensures) c.told.ensures
+    told_by 17 _ true (total_answer c.requires.1 true c.args.self c.widened-wide.ensures c.plus-figure.ensures)
+    (total_answer c.requires.1 false c.args.self c.widened-wide.ensures c.plus.ensures) c.told.ensures

@@ -17,8 +17,12 @@ pub returns-then-a-eq100000000 : goal.returns-then-a-eq100000000
 returns-then-a-eq100000000 c = below_least c.args.upward c.requires.0 c.if-a-eq100000000.true c.difference.ensures c.directed.ensures
 
 pub directed-requires-2 : goal.directed-requires-2
-directed-requires-2 c =
-    (search rules, omega (arith, digits_high c.requires.0.is_figure), rw (kept c.args.a.power (omega (arith, c.requires.0.near))) (omega (arith, c.requires.0.near)))
+directed-requires-2 c = (
+  search rules,
+  omega (arith, digits_high c.requires.0.is_figure),
+  rw (kept c.args.a.power (omega (arith, c.requires.0.near)))
+      (omega (arith, c.requires.0.near)),
+)
 
 pub returns : goal.returns
 returns c = below_more c.args.upward c.requires.0 c.if-a-eq100000000.false c.directed-2.ensures

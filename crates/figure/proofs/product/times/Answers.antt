@@ -18,8 +18,11 @@ pub sum-power-requires : goal.sum-power-requires
 sum-power-requires c = product_powers c.requires.0 c.requires.1 c.if-p-eq0.false c.nine_digits-s.ensures c.sum.ensures
 
 pub directed-requires : goal.directed-requires
-directed-requires c =
-    (search rules, product_below c.requires.0 c.requires.1 c.if-p-eq0.false c.nine_digits-s.ensures c.sum.ensures, product_power c.requires.0 c.requires.1 c.if-p-eq0.false c.nine_digits-s.ensures c.sum.ensures c.sum-power.ensures)
+directed-requires c = (
+  search rules,
+  product_below c.requires.0 c.requires.1 c.if-p-eq0.false c.nine_digits-s.ensures c.sum.ensures,
+  product_power c.requires.0 c.requires.1 c.if-p-eq0.false c.nine_digits-s.ensures c.sum.ensures c.sum-power.ensures,
+)
 
 pub returns : goal.returns
 returns c =

@@ -22,9 +22,14 @@ difference-power-requires c =
     quotient_powers c.requires.0 c.requires.1 c.requires.2 c.zeros_needed-zeros.ensures c.ten_to.ensures c.difference.ensures c.positive.ensures
 
 pub directed-requires : goal.directed-requires
-directed-requires c =
-    (search rules, quotient_below c.requires.0 c.requires.1 c.requires.2 c.zeros_needed-zeros.ensures c.ten_to.ensures c.parted-part.ensures, quotient_power c.requires.0 c.requires.1 c.requires.2 c.zeros_needed-zeros.ensures c.ten_to.ensures c.difference.ensures c.positive.ensures c.difference-power.ensures)
+directed-requires c = (
+  search rules,
+  quotient_below c.requires.0 c.requires.1 c.requires.2 c.zeros_needed-zeros.ensures c.ten_to.ensures c.parted-part.ensures,
+  quotient_power c.requires.0 c.requires.1 c.requires.2 c.zeros_needed-zeros.ensures c.ten_to.ensures c.difference.ensures c.positive.ensures
+      c.difference-power.ensures,
+)
 
 pub returns : goal.returns
 returns c =
-    quotient_answer c.requires.0 c.requires.1 c.requires.2 c.zeros_needed-zeros.ensures c.ten_to.ensures c.difference.ensures c.positive.ensures c.difference-power.ensures c.args.upward c.parted-part.ensures c.directed.ensures
+    quotient_answer c.requires.0 c.requires.1 c.requires.2 c.zeros_needed-zeros.ensures c.ten_to.ensures c.difference.ensures c.positive.ensures
+    c.difference-power.ensures c.args.upward c.parted-part.ensures c.directed.ensures

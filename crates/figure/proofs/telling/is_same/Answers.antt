@@ -9,7 +9,8 @@ use Rattle.figure.proofs.telling.is_same.Goals as goal
 
 pub returns-then-a-b-2 : goal.returns-then-a-b-2
 returns-then-a-b-2 c =
-    let p = same_power_is c.args.a c.args.b (search rules) (search rules) c.if-a-b-2.true in record { same = λ e. λ k. record { digits = c.if-a-b.true k; power = p k }; is_told = λ e. refl }
+    let p = same_power_is c.args.a c.args.b (search rules) (search rules) c.if-a-b-2.true in
+    record { same = λ e. λ k. record { digits = c.if-a-b.true k; power = p k }; is_told = λ e. refl }
 
 pub returns-else-a-b-2 : goal.returns-else-a-b-2
 returns-else-a-b-2 c = record { same = λ e. absurd (false≢true e); is_told = λ e. absurd (c.if-a-b-2.false (ap (λ f. of_z w32 f.power) e)) }

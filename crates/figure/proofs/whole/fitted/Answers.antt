@@ -15,7 +15,8 @@ difference-power-requires c =
 
 pub returns-then-count-le9 : goal.returns-then-count-le9
 returns-then-count-le9 c =
-    padding_answer c.digit_count-count.ensures c.if-count-le9.true c.ten_to.ensures c.args.power c.requires c.positive.ensures c.args.upward c.difference-power.ensures
+    padding_answer c.digit_count-count.ensures c.if-count-le9.true c.ten_to.ensures c.args.power c.requires c.positive.ensures c.args.upward
+    c.difference-power.ensures
 
 pub parted-part-requires : goal.parted-part-requires
 parted-part-requires c = divisor_pos c.digit_count-count.ensures c.if-count-le9.false c.ten_to-2.ensures
@@ -24,9 +25,13 @@ pub sum-requires : goal.sum-requires
 sum-requires c = whole_powers c.digit_count-count.ensures c.if-count-le9.false c.ten_to-2.ensures c.args.power c.requires c.positive-2.ensures
 
 pub directed-requires : goal.directed-requires
-directed-requires c =
-    (search rules, whole_below c.digit_count-count.ensures c.if-count-le9.false c.ten_to-2.ensures c.parted-part.ensures, whole_power c.digit_count-count.ensures c.if-count-le9.false c.ten_to-2.ensures c.args.power c.requires c.positive-2.ensures c.sum.ensures)
+directed-requires c = (
+  search rules,
+  whole_below c.digit_count-count.ensures c.if-count-le9.false c.ten_to-2.ensures c.parted-part.ensures,
+  whole_power c.digit_count-count.ensures c.if-count-le9.false c.ten_to-2.ensures c.args.power c.requires c.positive-2.ensures c.sum.ensures,
+)
 
 pub returns : goal.returns
 returns c =
-    whole_answer c.digit_count-count.ensures c.if-count-le9.false c.ten_to-2.ensures c.args.power c.requires c.positive-2.ensures c.sum.ensures c.args.upward c.parted-part.ensures c.directed.ensures
+    whole_answer c.digit_count-count.ensures c.if-count-le9.false c.ten_to-2.ensures c.args.power c.requires c.positive-2.ensures c.sum.ensures c.args.upward
+    c.parted-part.ensures c.directed.ensures

@@ -33,12 +33,14 @@ slice_bounds-word_at-start c =
 
 pub returns-then-w-word_at : goal.returns-then-w-word_at
 returns-then-w-word_at c =
-    let word_is : c.word_at.result ≡ get_or c.args.words.now (slot_place c.args.index.now c.args.s c.loop-i.i) 0 = c.word_at.ensures ∙ part_word c.args.words.now _ ∙ ap (λ (k : ℕ). get_or c.args.words.now k 0) c.slot_place-at.ensures.0 in
+    let word_is : c.word_at.result ≡ get_or c.args.words.now (slot_place c.args.index.now c.args.s c.loop-i.i) 0 = c.word_at.ensures
+    ∙ part_word c.args.words.now _ ∙ ap (λ (k : ℕ). get_or c.args.words.now k 0) c.slot_place-at.ensures.0 in
     sym (sym c.loop-i.invariant.1 ∙ any_here _ _ _ c.loop-i.i c.loop-i-test.true (eq-eqb _ _ (c.if-w-word_at.true ∙ word_is)))
 
 pub loop-i-preserved : goal.loop-i-preserved
 loop-i-preserved c =
-    let word_is : c.word_at.result ≡ get_or c.args.words.now (slot_place c.args.index.now c.args.s c.loop-i.i) 0 = c.word_at.ensures ∙ part_word c.args.words.now _ ∙ ap (λ (k : ℕ). get_or c.args.words.now k 0) c.slot_place-at.ensures.0 in
+    let word_is : c.word_at.result ≡ get_or c.args.words.now (slot_place c.args.index.now c.args.s c.loop-i.i) 0 = c.word_at.ensures
+    ∙ part_word c.args.words.now _ ∙ ap (λ (k : ℕ). get_or c.args.words.now k 0) c.slot_place-at.ensures.0 in
     (omega arith, sym (any_later _ _ _ c.loop-i.i c.loop-i-test.true (ne_eqb _ _ (λ e. c.if-w-word_at.false (e ∙ sym word_is)))) ∙ c.loop-i.invariant.1)
 
 pub returns : goal.returns

@@ -31,15 +31,22 @@ exit_count-requires c = omega (arith, c.requires)
 
 pub returns-then-exit_count-ne0 : goal.returns-then-exit_count-ne0
 returns-then-exit_count-ne0 c =
-    let named = sym c.is_named.ensures ∙ c.if-is_named.true in let on = leads c.args.index.now c.loop-s.s named (λ e. c.if-exit_count-ne0.true (c.exit_count.ensures.0 ∙ e)) in sym (lowest_turn (leads_on_by c.args.index.now) c.args.states c.loop-s.s c.loop-s-test.true on) ∙ c.loop-s.invariant.1.1
+    let named = sym c.is_named.ensures ∙ c.if-is_named.true in let on = leads c.args.index.now c.loop-s.s named
+    (λ e. c.if-exit_count-ne0.true (c.exit_count.ensures.0 ∙ e)) in
+    sym (lowest_turn (leads_on_by c.args.index.now) c.args.states c.loop-s.s c.loop-s-test.true on) ∙ c.loop-s.invariant.1.1
 
 pub overflow_add-s : goal.overflow_add-s
 overflow_add-s c = omega (arith, c.requires)
 
 pub loop-s-preserved : goal.loop-s-preserved
 loop-s-preserved c =
-    let passed : leads_on_by c.args.index.now c.loop-s.s ≡ false = elim c.if-is_named.branch [ then-is_named+else-exit_count-ne0 w ↦ ends c.args.index.now c.loop-s.s (sym w.exit_count.ensures.0 ∙ w.if-exit_count-ne0.false) | else-is_named w ↦ rw (sym c.is_named.ensures ∙ w.if-is_named.false) ] in
-    let next = lowest_next (leads_on_by c.args.index.now) c.args.states c.loop-s.s c.loop-s-test.true passed in (omega arith, (omega arith, next ∙ c.loop-s.invariant.1.1))
+    let passed : leads_on_by c.args.index.now c.loop-s.s ≡ false = elim c.if-is_named.branch [
+      | then-is_named+else-exit_count-ne0 w ↦ ends c.args.index.now c.loop-s.s (sym w.exit_count.ensures.0 ∙ w.if-exit_count-ne0.false)
+      | else-is_named w
+          ↦ rw (sym c.is_named.ensures ∙ w.if-is_named.false)
+    ] in
+    let next = lowest_next (leads_on_by c.args.index.now) c.args.states c.loop-s.s c.loop-s-test.true passed in
+    (omega arith, (omega arith, next ∙ c.loop-s.invariant.1.1))
 
 pub returns : goal.returns
 returns c = sym (lowest_none_left (leads_on_by c.args.index.now) c.args.states c.loop-s.s c.loop-s-test.false) ∙ c.loop-s.invariant.1.1

@@ -16,60 +16,72 @@ loop-states-init c = λ a same opened. rw c.clear.ensures (naming_begins a _ ope
 
 pub offset_bounds-words-at : goal.offset_bounds-words-at
 offset_bounds-words-at c =
-    let so_far : NamedUpTo c.args.a c.args.words.now c.loop-states.at c.loop-states.last c.loop-states.count c.loop-states.index = c.loop-states.invariant c.args.a refl c.requires.opened in
+    let so_far : NamedUpTo c.args.a c.args.words.now c.loop-states.at c.loop-states.last c.loop-states.count c.loop-states.index =
+    c.loop-states.invariant c.args.a refl c.requires.opened in
     omega (arith, so_far.inside, c.requires.words_len_bound)
 
 pub slice_bounds-word_at-count : goal.slice_bounds-word_at-count
 slice_bounds-word_at-count c =
-    let so_far : NamedUpTo c.args.a c.args.words.now c.loop-states.at c.loop-states.last c.loop-states.count c.loop-states.index = c.loop-states.invariant c.args.a refl c.requires.opened in
+    let so_far : NamedUpTo c.args.a c.args.words.now c.loop-states.at c.loop-states.last c.loop-states.count c.loop-states.index =
+    c.loop-states.invariant c.args.a refl c.requires.opened in
     so_far.inside
 
 pub slice_bounds-word_at-start : goal.slice_bounds-word_at-start
 slice_bounds-word_at-start c =
-    let so_far : NamedUpTo c.args.a c.args.words.now c.loop-states.at c.loop-states.last c.loop-states.count c.loop-states.index = c.loop-states.invariant c.args.a refl c.requires.opened in
+    let so_far : NamedUpTo c.args.a c.args.words.now c.loop-states.at c.loop-states.last c.loop-states.count c.loop-states.index =
+    c.loop-states.invariant c.args.a refl c.requires.opened in
     so_far.inside
 
 pub returns-then-kind-ne12 : goal.returns-then-kind-ne12
 returns-then-kind-ne12 c =
-    let so_far : NamedUpTo c.args.a c.args.words.now c.loop-states.at c.loop-states.last c.loop-states.count c.loop-states.index = c.loop-states.invariant c.args.a refl c.requires.opened in
+    let so_far : NamedUpTo c.args.a c.args.words.now c.loop-states.at c.loop-states.last c.loop-states.count c.loop-states.index =
+    c.loop-states.invariant c.args.a refl c.requires.opened in
     let word_is : c.word_at-w.result ≡ get_or c.args.words.now c.loop-states.at 0 = c.word_at-w.ensures ∙ part_word c.args.words.now c.loop-states.at in
     naming_ends _ _ _ _ _ _ so_far c.word_at-w.result word_is (λ e. c.if-kind-ne12.true (c.kind.ensures ∙ e))
 
 pub returns-in-Refused : goal.returns-in-Refused
 returns-in-Refused c =
     let twelve : kind c.word_at-w.result ≡ 12 = sym c.kind.ensures ∙ c.if-kind-ne12.false in
-    let so_far : NamedUpTo c.args.a c.args.words.now c.loop-states.at c.loop-states.last c.loop-states.count c.loop-states.index = c.loop-states.invariant c.args.a refl c.requires.opened in
+    let so_far : NamedUpTo c.args.a c.args.words.now c.loop-states.at c.loop-states.last c.loop-states.count c.loop-states.index =
+    c.loop-states.invariant c.args.a refl c.requires.opened in
     let word_is : c.word_at-w.result ≡ get_or c.args.words.now c.loop-states.at 0 = c.word_at-w.ensures ∙ part_word c.args.words.now c.loop-states.at in
     name_stops _ _ _ _ _ _ so_far c.word_at-w.result word_is twelve _ refl _ _ (sym c.named.ensures ∙ ap answer c.in-Refused.is)
 
 pub name-requires : goal.name-requires
 name-requires c =
     let twelve : kind c.word_at-w.result ≡ 12 = sym c.kind.ensures ∙ c.if-kind-ne12.false in
-    let fine : first_fault (named_faults c.args.a.states c.loop-states.last c.loop-states.count c.word_at-w.result) c.loop-states.at ≡ granted tt = sym c.named.ensures ∙ ap answer c.in_default.is in
-    let so_far : NamedUpTo c.args.a c.args.words.now c.loop-states.at c.loop-states.last c.loop-states.count c.loop-states.index = c.loop-states.invariant c.args.a refl c.requires.opened in
+    let fine : first_fault (named_faults c.args.a.states c.loop-states.last c.loop-states.count c.word_at-w.result) c.loop-states.at ≡ granted tt =
+    sym c.named.ensures ∙ ap answer c.in_default.is in
+    let so_far : NamedUpTo c.args.a c.args.words.now c.loop-states.at c.loop-states.last c.loop-states.count c.loop-states.index =
+    c.loop-states.invariant c.args.a refl c.requires.opened in
     let word_is : c.word_at-w.result ≡ get_or c.args.words.now c.loop-states.at 0 = c.word_at-w.ensures ∙ part_word c.args.words.now c.loop-states.at in
     rw c.named_state-last.ensures.value (state_small _ _ _ _ _ _ so_far c.word_at-w.result word_is twelve _ refl fine)
 
 pub overflow_add-count : goal.overflow_add-count
 overflow_add-count c =
-    let so_far : NamedUpTo c.args.a c.args.words.now c.loop-states.at c.loop-states.last c.loop-states.count c.loop-states.index = c.loop-states.invariant c.args.a refl c.requires.opened in
+    let so_far : NamedUpTo c.args.a c.args.words.now c.loop-states.at c.loop-states.last c.loop-states.count c.loop-states.index =
+    c.loop-states.invariant c.args.a refl c.requires.opened in
     omega (arith, so_far.count_few)
 
 pub overflow_add-at : goal.overflow_add-at
 overflow_add-at c =
-    let so_far : NamedUpTo c.args.a c.args.words.now c.loop-states.at c.loop-states.last c.loop-states.count c.loop-states.index = c.loop-states.invariant c.args.a refl c.requires.opened in
+    let so_far : NamedUpTo c.args.a c.args.words.now c.loop-states.at c.loop-states.last c.loop-states.count c.loop-states.index =
+    c.loop-states.invariant c.args.a refl c.requires.opened in
     omega (arith, so_far.inside, c.requires.words_len_bound)
 
 pub loop-states-smaller : goal.loop-states-smaller
 loop-states-smaller c =
     let twelve : kind c.word_at-w.result ≡ 12 = sym c.kind.ensures ∙ c.if-kind-ne12.false in
-    let so_far : NamedUpTo c.args.a c.args.words.now c.loop-states.at c.loop-states.last c.loop-states.count c.loop-states.index = c.loop-states.invariant c.args.a refl c.requires.opened in
+    let so_far : NamedUpTo c.args.a c.args.words.now c.loop-states.at c.loop-states.last c.loop-states.count c.loop-states.index =
+    c.loop-states.invariant c.args.a refl c.requires.opened in
     let word_is : c.word_at-w.result ≡ get_or c.args.words.now c.loop-states.at 0 = c.word_at-w.ensures ∙ part_word c.args.words.now c.loop-states.at in
     omega (arith, word_there _ _ _ _ _ _ so_far c.word_at-w.result word_is twelve)
 
 pub loop-states-preserved : goal.loop-states-preserved
 loop-states-preserved c =
     let twelve : kind c.word_at-w.result ≡ 12 = sym c.kind.ensures ∙ c.if-kind-ne12.false in
-    let fine : first_fault (named_faults c.args.a.states c.loop-states.last c.loop-states.count c.word_at-w.result) c.loop-states.at ≡ granted tt = sym c.named.ensures ∙ ap answer c.in_default.is in
+    let fine : first_fault (named_faults c.args.a.states c.loop-states.last c.loop-states.count c.word_at-w.result) c.loop-states.at ≡ granted tt =
+    sym c.named.ensures ∙ ap answer c.in_default.is in
     let word_is : c.word_at-w.result ≡ get_or c.args.words.now c.loop-states.at 0 = c.word_at-w.ensures ∙ part_word c.args.words.now c.loop-states.at in
-    λ a same opened. rw (c.name.ensures, c.named_state-last.ensures.value) (name_passes _ _ _ _ _ _ (c.loop-states.invariant a same opened) c.word_at-w.result word_is twelve _ same fine)
+    λ a same opened. rw (c.name.ensures, c.named_state-last.ensures.value)
+    (name_passes _ _ _ _ _ _ (c.loop-states.invariant a same opened) c.word_at-w.result word_is twelve _ same fine)

@@ -51,4 +51,24 @@ returns-in-Refused c = opening_stops _ _ _ (sym c.verdict.ensures ∙ ap answer 
 pub returns-in-Fine : goal.returns-in-Fine
 returns-in-Fine c =
     let first : FirstWords c.args.words.now = opening_passes c.args.words.now (sym c.verdict.ensures ∙ ap answer c.in-Fine.is) in
-    let w = first in record { model = first_model c.args.words.now; fields = λ i. record { states = c.states.ensures.value i; start = c.start.ensures.value i; step_limit = c.step_limit.ensures i; entry_limit = c.entry_limit.ensures i; time = (c.quantity_at-time.ensures ∙ at_place c.args.words.now 1) i; prune = (c.quantity_at-prune.ensures ∙ at_place c.args.words.now 2) i }; none_named = refl; empty = refl; reads = w.reads; inside = w.inside; states_high = w.states_high; start_high = w.start_high }
+    let w = first in record {
+      model = first_model c.args.words.now;
+      fields = λ i.
+          record {
+            states = c.states.ensures.value i;
+            start = c.start.ensures.value i;
+            step_limit = c.step_limit.ensures i;
+            entry_limit =
+                c.entry_limit.ensures i;
+            time = (c.quantity_at-time.ensures ∙ at_place c.args.words.now 1) i;
+            prune =
+                (c.quantity_at-prune.ensures ∙ at_place c.args.words.now 2) i;
+          };
+      none_named = refl;
+      empty = refl;
+      reads = w.reads;
+      inside = w.inside;
+      states_high =
+          w.states_high;
+      start_high = w.start_high;
+    }

@@ -14,10 +14,12 @@ returns-in-Refused c =
 
 pub returns-then-behind-words : goal.returns-then-behind-words
 returns-then-behind-words c =
-    let fine : word_answer end_faults c.args.at (drop c.args.at c.args.words.now) ≡ granted tt = rw part_from at (sym c.end.ensures ∙ ap answer c.in_default.is) in
+    let fine : word_answer end_faults c.args.at (drop c.args.at c.args.words.now) ≡ granted tt =
+    rw part_from at (sym c.end.ensures ∙ ap answer c.in_default.is) in
     λ m fifteen. end_followed c.args.words.now c.args.at c.requires m fifteen fine c.if-behind-words.true
 
 pub returns : goal.returns
 returns c =
-    let fine : word_answer end_faults c.args.at (drop c.args.at c.args.words.now) ≡ granted tt = rw part_from at (sym c.end.ensures ∙ ap answer c.in_default.is) in
+    let fine : word_answer end_faults c.args.at (drop c.args.at c.args.words.now) ≡ granted tt =
+    rw part_from at (sym c.end.ensures ∙ ap answer c.in_default.is) in
     λ m fifteen. end_last c.args.words.now c.args.at c.requires m fifteen fine c.if-behind-words.false

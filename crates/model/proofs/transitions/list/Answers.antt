@@ -15,12 +15,14 @@ overflow_add-known c = omega (arith, c.loop-behind.invariant.few, c.loop-behind.
 
 pub loop-behind-smaller : goal.loop-behind-smaller
 loop-behind-smaller c =
-    let stepped : (c.loop-behind.at < c.in-To.behind) × Begun c.args.a c.args.words.now c.in-To.behind (c.loop-behind.known + 1) c.next.new.index = rw c.in-To.is at c.next.ensures in
+    let stepped : (c.loop-behind.at < c.in-To.behind) × Begun c.args.a c.args.words.now c.in-To.behind (c.loop-behind.known + 1) c.next.new.index =
+    rw c.in-To.is at c.next.ensures in
     let h = stepped in omega (arith, h.0, h.1.far.inside)
 
 pub loop-behind-preserved : goal.loop-behind-preserved
 loop-behind-preserved c =
-    let stepped : (c.loop-behind.at < c.in-To.behind) × Begun c.args.a c.args.words.now c.in-To.behind (c.loop-behind.known + 1) c.next.new.index = rw c.in-To.is at c.next.ensures in
+    let stepped : (c.loop-behind.at < c.in-To.behind) × Begun c.args.a c.args.words.now c.in-To.behind (c.loop-behind.known + 1) c.next.new.index =
+    rw c.in-To.is at c.next.ensures in
     stepped.1
 
 pub returns-in-End : goal.returns-in-End

@@ -24,7 +24,8 @@ pub exit_count-n-requires : goal.exit_count-n-requires
 exit_count-n-requires c =
     let word_small : get_or c.args.words.now c.args.at 0 < 4294967296 = omega (arith, c.shared_slice_known-1.given c.args.at) in
     let word_is : c.word_at-w.result ≡ get_or c.args.words.now c.args.at 0 = c.word_at-w.ensures ∙ part_word c.args.words.now c.args.at in
-    let fields_fine : first_fault (field_faults c.args.a.states (get_or c.args.words.now c.args.at 0)) c.args.at ≡ granted tt = rw word_is at (sym c.transition.ensures ∙ ap answer c.in_default.is) in
+    let fields_fine : first_fault (field_faults c.args.a.states (get_or c.args.words.now c.args.at 0)) c.args.at ≡ granted tt =
+    rw word_is at (sym c.transition.ensures ∙ ap answer c.in_default.is) in
     let from_low : from_field (get_or c.args.words.now c.args.at 0) ≤ 1000 = from_small _ _ _ _ _ c.requires word_small fields_fine in
     let from_is : c.from.result ≡ from_field (get_or c.args.words.now c.args.at 0) = c.from.ensures.value ∙ ap from_field word_is in
     omega (arith, from_is, from_low)
@@ -33,9 +34,11 @@ pub room-requires : goal.room-requires
 room-requires c =
     let word_is : c.word_at-w.result ≡ get_or c.args.words.now c.args.at 0 = c.word_at-w.ensures ∙ part_word c.args.words.now c.args.at in
     let from_is : c.from.result ≡ from_field (get_or c.args.words.now c.args.at 0) = c.from.ensures.value ∙ ap from_field word_is in
-    let count_is : c.exit_count-n.result ≡ exit_count c.args.index.now (from_field (get_or c.args.words.now c.args.at 0)) = c.exit_count-n.ensures.0 ∙ ap (exit_count c.args.index.now) from_is in
+    let count_is : c.exit_count-n.result ≡ exit_count c.args.index.now (from_field (get_or c.args.words.now c.args.at 0)) = c.exit_count-n.ensures.0
+    ∙ ap (exit_count c.args.index.now) from_is in
     let word_small : get_or c.args.words.now c.args.at 0 < 4294967296 = omega (arith, c.shared_slice_known-1.given c.args.at) in
-    let fields_fine : first_fault (field_faults c.args.a.states (get_or c.args.words.now c.args.at 0)) c.args.at ≡ granted tt = rw word_is at (sym c.transition.ensures ∙ ap answer c.in_default.is) in
+    let fields_fine : first_fault (field_faults c.args.a.states (get_or c.args.words.now c.args.at 0)) c.args.at ≡ granted tt =
+    rw word_is at (sym c.transition.ensures ∙ ap answer c.in_default.is) in
     let from_low : from_field (get_or c.args.words.now c.args.at 0) ≤ 1000 = from_small _ _ _ _ _ c.requires word_small fields_fine in
     rw (word_is, count_is) (leads _ _ _ _ c.requires.begun _ from_low)
 
@@ -43,8 +46,10 @@ pub returns-in-Refused-room : goal.returns-in-Refused-room
 returns-in-Refused-room c =
     let word_is : c.word_at-w.result ≡ get_or c.args.words.now c.args.at 0 = c.word_at-w.ensures ∙ part_word c.args.words.now c.args.at in
     let from_is : c.from.result ≡ from_field (get_or c.args.words.now c.args.at 0) = c.from.ensures.value ∙ ap from_field word_is in
-    let count_is : c.exit_count-n.result ≡ exit_count c.args.index.now (from_field (get_or c.args.words.now c.args.at 0)) = c.exit_count-n.ensures.0 ∙ ap (exit_count c.args.index.now) from_is in
-    let fields_fine : first_fault (field_faults c.args.a.states (get_or c.args.words.now c.args.at 0)) c.args.at ≡ granted tt = rw word_is at (sym c.transition.ensures ∙ ap answer c.in_default.is) in
+    let count_is : c.exit_count-n.result ≡ exit_count c.args.index.now (from_field (get_or c.args.words.now c.args.at 0)) = c.exit_count-n.ensures.0
+    ∙ ap (exit_count c.args.index.now) from_is in
+    let fields_fine : first_fault (field_faults c.args.a.states (get_or c.args.words.now c.args.at 0)) c.args.at ≡ granted tt =
+    rw word_is at (sym c.transition.ensures ∙ ap answer c.in_default.is) in
     let word_small : get_or c.args.words.now c.args.at 0 < 4294967296 = omega (arith, c.shared_slice_known-1.given c.args.at) in
     room_stop _ _ _ _ _ c.requires word_small fields_fine _ _ (rw (count_is, word_is) at (sym c.room.ensures ∙ ap answer c.in-Refused-room.is))
 
@@ -52,7 +57,11 @@ pub returns : goal.returns
 returns c =
     let word_is : c.word_at-w.result ≡ get_or c.args.words.now c.args.at 0 = c.word_at-w.ensures ∙ part_word c.args.words.now c.args.at in
     let from_is : c.from.result ≡ from_field (get_or c.args.words.now c.args.at 0) = c.from.ensures.value ∙ ap from_field word_is in
-    let count_is : c.exit_count-n.result ≡ exit_count c.args.index.now (from_field (get_or c.args.words.now c.args.at 0)) = c.exit_count-n.ensures.0 ∙ ap (exit_count c.args.index.now) from_is in
-    let fields_fine : first_fault (field_faults c.args.a.states (get_or c.args.words.now c.args.at 0)) c.args.at ≡ granted tt = rw word_is at (sym c.transition.ensures ∙ ap answer c.in_default.is) in
+    let count_is : c.exit_count-n.result ≡ exit_count c.args.index.now (from_field (get_or c.args.words.now c.args.at 0)) = c.exit_count-n.ensures.0
+    ∙ ap (exit_count c.args.index.now) from_is in
+    let fields_fine : first_fault (field_faults c.args.a.states (get_or c.args.words.now c.args.at 0)) c.args.at ≡ granted tt =
+    rw word_is at (sym c.transition.ensures ∙ ap answer c.in_default.is) in
     let word_small : get_or c.args.words.now c.args.at 0 < 4294967296 = omega (arith, c.shared_slice_known-1.given c.args.at) in
-    tested_is _ _ _ _ _ c.requires word_small fields_fine (rw (count_is, word_is) at (sym c.room.ensures ∙ ap answer c.in_default-room.is)) c.body.result (c.body.ensures ∙ ap (λ (b : Bool). words_answer (body_faults b) (c.args.at + 1) c.args.words.now) (c.is_fast.ensures ∙ ap (λ (w : ℕ). eqb (kind w) 7) word_is))
+    tested_is _ _ _ _ _ c.requires word_small fields_fine (rw (count_is, word_is) at (sym c.room.ensures ∙ ap answer c.in_default-room.is)) c.body.result
+    (c.body.ensures ∙ ap (λ (b : Bool). words_answer (body_faults b) (c.args.at + 1) c.args.words.now)
+    (c.is_fast.ensures ∙ ap (λ (w : ℕ). eqb (kind w) 7) word_is))

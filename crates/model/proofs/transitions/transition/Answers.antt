@@ -23,7 +23,8 @@ returns-then-is_fast c =
     let word_is : c.word_at-w.result ≡ get_or c.args.words.now c.args.at 0 = c.word_at-w.ensures ∙ part_word c.args.words.now c.args.at in
     let from_is : c.from.result ≡ from_field (get_or c.args.words.now c.args.at 0) = c.from.ensures.value ∙ ap from_field word_is in
     let passes : Passes c.args.a c.args.words.now c.args.at c.args.known c.args.index.now = rw c.in_default.is at c.tested.ensures in
-    let entered : Begun c.args.a c.args.words.now (c.args.at + words_taken c.word_at-w.result) (c.args.known + 1) c.enter.new.index = rw (c.enter.ensures, from_is, word_is) passes.next in
+    let entered : Begun c.args.a c.args.words.now (c.args.at + words_taken c.word_at-w.result) (c.args.known + 1) c.enter.new.index =
+    rw (c.enter.ensures, from_is, word_is) passes.next in
     (omega arith, rw (sym c.is_fast.ensures ∙ c.if-is_fast.true, words_taken) at entered)
 
 pub returns : goal.returns
@@ -31,5 +32,6 @@ returns c =
     let word_is : c.word_at-w.result ≡ get_or c.args.words.now c.args.at 0 = c.word_at-w.ensures ∙ part_word c.args.words.now c.args.at in
     let from_is : c.from.result ≡ from_field (get_or c.args.words.now c.args.at 0) = c.from.ensures.value ∙ ap from_field word_is in
     let passes : Passes c.args.a c.args.words.now c.args.at c.args.known c.args.index.now = rw c.in_default.is at c.tested.ensures in
-    let entered : Begun c.args.a c.args.words.now (c.args.at + words_taken c.word_at-w.result) (c.args.known + 1) c.enter.new.index = rw (c.enter.ensures, from_is, word_is) passes.next in
+    let entered : Begun c.args.a c.args.words.now (c.args.at + words_taken c.word_at-w.result) (c.args.known + 1) c.enter.new.index =
+    rw (c.enter.ensures, from_is, word_is) passes.next in
     (omega arith, rw (sym c.is_fast.ensures ∙ c.if-is_fast.false, words_taken) at entered)

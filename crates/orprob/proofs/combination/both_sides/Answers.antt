@@ -23,17 +23,20 @@ bounds-pairs-i c = omega (arith, c.loop-i-test.true, c.requires.0)
 
 pub with_lower-lower-requires : goal.with_lower-lower-requires
 with_lower-lower-requires c =
-    let is_one : IsPair (pair_at c.args.pairs c.loop-i.i) = pair_held _ (rw (get_or-take c.args.count c.args.pairs c.loop-i.i no_pair c.loop-i-test.true) at (c.requires.1 c.loop-i.i c.loop-i-test.true)) in
+    let is_one : IsPair (pair_at c.args.pairs c.loop-i.i) = pair_held _
+    (rw (get_or-take c.args.count c.args.pairs c.loop-i.i no_pair c.loop-i-test.true) at (c.requires.1 c.loop-i.i c.loop-i-test.true)) in
     (sized-≤ (omega (arith, c.loop-i-test.true, c.requires.0)) c.loop-i.invariant.1.lower_sized, lower_sized is_one)
 
 pub at_most_one-high-requires : goal.at_most_one-high-requires
 at_most_one-high-requires c =
-    let is_one : IsPair (pair_at c.args.pairs c.loop-i.i) = pair_held _ (rw (get_or-take c.args.count c.args.pairs c.loop-i.i no_pair c.loop-i-test.true) at (c.requires.1 c.loop-i.i c.loop-i-test.true)) in
+    let is_one : IsPair (pair_at c.args.pairs c.loop-i.i) = pair_held _
+    (rw (get_or-take c.args.count c.args.pairs c.loop-i.i no_pair c.loop-i-test.true) at (c.requires.1 c.loop-i.i c.loop-i-test.true)) in
     is_one.upper_figure
 
 pub with_upper-upper-requires : goal.with_upper-upper-requires
 with_upper-upper-requires c =
-    let is_one : IsPair (pair_at c.args.pairs c.loop-i.i) = pair_held _ (rw (get_or-take c.args.count c.args.pairs c.loop-i.i no_pair c.loop-i-test.true) at (c.requires.1 c.loop-i.i c.loop-i-test.true)) in
+    let is_one : IsPair (pair_at c.args.pairs c.loop-i.i) = pair_held _
+    (rw (get_or-take c.args.count c.args.pairs c.loop-i.i no_pair c.loop-i-test.true) at (c.requires.1 c.loop-i.i c.loop-i-test.true)) in
     (sized-≤ (omega (arith, c.loop-i-test.true, c.requires.0)) c.loop-i.invariant.1.upper_sized, rw c.at_most_one-high.ensures (upper_sized is_one))
 
 pub overflow_add-i : goal.overflow_add-i
@@ -44,9 +47,16 @@ loop-i-smaller c = omega (arith, c.loop-i-test.true)
 
 pub loop-i-preserved : goal.loop-i-preserved
 loop-i-preserved c =
-    let is_one : IsPair (pair_at c.args.pairs c.loop-i.i) = pair_held _ (rw (get_or-take c.args.count c.args.pairs c.loop-i.i no_pair c.loop-i-test.true) at (c.requires.1 c.loop-i.i c.loop-i-test.true)) in
-    let size : length c.args.pairs ≡ 16 = search rules in (omega (arith, c.loop-i-test.true), combining_more _ _ (omega (arith, c.loop-i-test.true, c.requires.0, size)) is_one c.loop-i.invariant.1 c.with_lower-lower.ensures c.at_most_one-high.ensures c.with_upper-upper.ensures)
+    let is_one : IsPair (pair_at c.args.pairs c.loop-i.i) = pair_held _
+    (rw (get_or-take c.args.count c.args.pairs c.loop-i.i no_pair c.loop-i-test.true) at (c.requires.1 c.loop-i.i c.loop-i-test.true)) in
+    let size : length c.args.pairs ≡ 16 = search rules in (
+      omega (arith, c.loop-i-test.true),
+      combining_more _ _
+          (omega (arith, c.loop-i-test.true, c.requires.0, size)) is_one c.loop-i.invariant.1 c.with_lower-lower.ensures c.at_most_one-high.ensures
+          c.with_upper-upper.ensures,
+    )
 
 pub returns : goal.returns
 returns c =
-    let e : c.loop-i.i ≡ c.args.count = omega (arith, c.loop-i-test.false, c.loop-i.invariant.0) in let h = rw e at c.loop-i.invariant.1 in record { lower_value = h.lower_is; upper_value = h.upper_is }
+    let e : c.loop-i.i ≡ c.args.count = omega (arith, c.loop-i-test.false, c.loop-i.invariant.0) in let h = rw e at c.loop-i.invariant.1 in
+    record { lower_value = h.lower_is; upper_value = h.upper_is }

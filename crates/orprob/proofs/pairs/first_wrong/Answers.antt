@@ -30,4 +30,5 @@ loop-i-preserved c =
 
 pub returns : goal.returns
 returns c =
-    let e : c.loop-i.i ≡ c.args.count = omega (arith, c.loop-i-test.false, c.loop-i.invariant.0) in none_wrong _ _ (search rules) c.requires (rw e at c.loop-i.invariant.1)
+    let e : c.loop-i.i ≡ c.args.count = omega (arith, c.loop-i-test.false, c.loop-i.invariant.0) in none_wrong _ _ (search rules) c.requires
+    (rw e at c.loop-i.invariant.1)

@@ -25,7 +25,8 @@ returns-then-not-power_inside c =
 
 pub returns-then-not-power_inside-2 : goal.returns-then-not-power_inside-2
 returns-then-not-power_inside-2 c =
-    let third : power_inside c.args.x.lower.power ≡ true = power_told c.args.x.lower.power (search rules) true c.power_inside.ensures c.if-not-power_inside.false in
+    let third : power_inside c.args.x.lower.power ≡ true = power_told c.args.x.lower.power
+    (search rules) true c.power_inside.ensures c.if-not-power_inside.false in
     let first : figure_test c.args.x.lower ≡ true = sym c.is_figure.ensures ∙ c.if-not-is_figure.false in
     let second : figure_test c.args.x.upper ≡ true = sym c.is_figure-2.ensures ∙ c.if-not-is_figure-2.false in
     upper_outside c.args.x first second third (power_told c.args.x.upper.power (search rules) false c.power_inside-2.ensures c.if-not-power_inside-2.true)
@@ -37,8 +38,10 @@ at_or_below-requires c =
 
 pub returns-then-not-at_or_below : goal.returns-then-not-at_or_below
 returns-then-not-at_or_below c =
-    let fourth : power_inside c.args.x.upper.power ≡ true = power_told c.args.x.upper.power (search rules) true c.power_inside-2.ensures c.if-not-power_inside-2.false in
-    let third : power_inside c.args.x.lower.power ≡ true = power_told c.args.x.lower.power (search rules) true c.power_inside.ensures c.if-not-power_inside.false in
+    let fourth : power_inside c.args.x.upper.power ≡ true = power_told c.args.x.upper.power
+    (search rules) true c.power_inside-2.ensures c.if-not-power_inside-2.false in
+    let third : power_inside c.args.x.lower.power ≡ true = power_told c.args.x.lower.power
+    (search rules) true c.power_inside.ensures c.if-not-power_inside.false in
     let first : figure_test c.args.x.lower ≡ true = sym c.is_figure.ensures ∙ c.if-not-is_figure.false in
     let second : figure_test c.args.x.upper ≡ true = sym c.is_figure-2.ensures ∙ c.if-not-is_figure-2.false in
     above_one c.args.x first second third fourth c.of_whole.result c.of_whole.ensures (sym c.at_or_below.ensures ∙ c.if-not-at_or_below.true)
@@ -51,8 +54,11 @@ at_or_below-requires-2 c =
 
 pub returns : goal.returns
 returns c =
-    let fourth : power_inside c.args.x.upper.power ≡ true = power_told c.args.x.upper.power (search rules) true c.power_inside-2.ensures c.if-not-power_inside-2.false in
-    let third : power_inside c.args.x.lower.power ≡ true = power_told c.args.x.lower.power (search rules) true c.power_inside.ensures c.if-not-power_inside.false in
+    let fourth : power_inside c.args.x.upper.power ≡ true = power_told c.args.x.upper.power
+    (search rules) true c.power_inside-2.ensures c.if-not-power_inside-2.false in
+    let third : power_inside c.args.x.lower.power ≡ true = power_told c.args.x.lower.power
+    (search rules) true c.power_inside.ensures c.if-not-power_inside.false in
     let first : figure_test c.args.x.lower ≡ true = sym c.is_figure.ensures ∙ c.if-not-is_figure.false in
     let second : figure_test c.args.x.upper ≡ true = sym c.is_figure-2.ensures ∙ c.if-not-is_figure-2.false in
-    c.at_or_below-2.ensures ∙ order_decides c.args.x first second third fourth c.of_whole.result c.of_whole.ensures (sym c.at_or_below.ensures ∙ c.if-not-at_or_below.false)
+    c.at_or_below-2.ensures ∙ order_decides c.args.x first second third fourth c.of_whole.result c.of_whole.ensures
+    (sym c.at_or_below.ensures ∙ c.if-not-at_or_below.false)

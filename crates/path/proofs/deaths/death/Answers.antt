@@ -23,20 +23,38 @@ lower_of-lower-requires c =
     let share_is : c.share.result ≡ share_in c.args.table.now c.args.exit.index = c.share.ensures ∙ ap (share_in c.args.table.now) c.wide-j.ensures.0 in
     let factor_is : c.factor.result ≡ factor_in c.args.table.now c.args.exit.index = c.factor.ensures ∙ ap (factor_in c.args.table.now) c.wide-j.ensures.0 in
     let last : LastStep (lent c.args.words.now c.args.index.now c.args.table.now) c.args.time c.args.path c.args.tip c.args.exit = c.requires.last_step.0 in
-    let h = last in let d = divisor _ (omega arith) (omega (arith, ones_high h)) c.requires.last_step.1 in (c.kept_or_new_stem-stem.ensures.stem_sized, sized-≤ (lit≤ tt) (share_held_sized h.filled h.index share_is), sized-≤ (lit≤ tt) (factor_held_sized h.filled h.index factor_is), d.0, d.1)
+    let h = last in let d = divisor _ (omega arith) (omega (arith, ones_high h)) c.requires.last_step.1 in (
+      c.kept_or_new_stem-stem.ensures.stem_sized,
+      sized-≤ (lit≤ tt) (share_held_sized h.filled h.index share_is),
+      sized-≤ (lit≤ tt)
+          (factor_held_sized h.filled h.index factor_is),
+      d.0,
+      d.1,
+    )
 
 pub returns-then-is_slow : goal.returns-then-is_slow
 returns-then-is_slow c =
     let share_is : c.share.result ≡ share_in c.args.table.now c.args.exit.index = c.share.ensures ∙ ap (share_in c.args.table.now) c.wide-j.ensures.0 in
     let factor_is : c.factor.result ≡ factor_in c.args.table.now c.args.exit.index = c.factor.ensures ∙ ap (factor_in c.args.table.now) c.wide-j.ensures.0 in
     let last : LastStep (lent c.args.words.now c.args.index.now c.args.table.now) c.args.time c.args.path c.args.tip c.args.exit = c.requires.last_step.0 in
-    let lower_is : let net = net_of c.args.words.now in c.lower_of-lower.result ≡ lower net (transition net c.args.exit.index ∷ path_of net c.args.path c.args.tip.len) = let h = last in death_at h c.kept_or_new_stem-stem.ensures.stem_for (share_held h.filled h.index share_is) (factor_held h.filled h.index factor_is) c.requires.last_step.1 c.lower_of-lower.ensures in
-    let h = last in let slow_step = ap is_slow (sym h.class_is) ∙ sym c.is_slow.ensures ∙ c.if-is_slow.true in record { lower_value = lower_is; cached_2 = record { stem_is = λ _. serves_kept _ _ slow_step h.leaves c.kept_or_new_stem-stem.ensures.stem_for; sized = c.kept_or_new_stem-stem.ensures.stem_sized } }
+    let lower_is : let net = net_of c.args.words.now in c.lower_of-lower.result ≡ lower net
+    (transition net c.args.exit.index ∷ path_of net c.args.path c.args.tip.len) = let h = last in death_at h c.kept_or_new_stem-stem.ensures.stem_for
+    (share_held h.filled h.index share_is) (factor_held h.filled h.index factor_is) c.requires.last_step.1 c.lower_of-lower.ensures in
+    let h = last in let slow_step = ap is_slow (sym h.class_is) ∙ sym c.is_slow.ensures ∙ c.if-is_slow.true in
+    record {
+      lower_value = lower_is;
+      cached_2 = record {
+        stem_is = λ _. serves_kept _ _ slow_step h.leaves c.kept_or_new_stem-stem.ensures.stem_for;
+        sized = c.kept_or_new_stem-stem.ensures.stem_sized;
+      };
+    }
 
 pub returns : goal.returns
 returns c =
     let share_is : c.share.result ≡ share_in c.args.table.now c.args.exit.index = c.share.ensures ∙ ap (share_in c.args.table.now) c.wide-j.ensures.0 in
     let factor_is : c.factor.result ≡ factor_in c.args.table.now c.args.exit.index = c.factor.ensures ∙ ap (factor_in c.args.table.now) c.wide-j.ensures.0 in
     let last : LastStep (lent c.args.words.now c.args.index.now c.args.table.now) c.args.time c.args.path c.args.tip c.args.exit = c.requires.last_step.0 in
-    let lower_is : let net = net_of c.args.words.now in c.lower_of-lower.result ≡ lower net (transition net c.args.exit.index ∷ path_of net c.args.path c.args.tip.len) = let h = last in death_at h c.kept_or_new_stem-stem.ensures.stem_for (share_held h.filled h.index share_is) (factor_held h.filled h.index factor_is) c.requires.last_step.1 c.lower_of-lower.ensures in
+    let lower_is : let net = net_of c.args.words.now in c.lower_of-lower.result ≡ lower net
+    (transition net c.args.exit.index ∷ path_of net c.args.path c.args.tip.len) = let h = last in death_at h c.kept_or_new_stem-stem.ensures.stem_for
+    (share_held h.filled h.index share_is) (factor_held h.filled h.index factor_is) c.requires.last_step.1 c.lower_of-lower.ensures in
     record { lower_value = lower_is; cached_2 = c.requires.cached }

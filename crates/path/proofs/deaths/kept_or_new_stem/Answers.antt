@@ -6,4 +6,9 @@ use Rattle.path.proofs.deaths.kept_or_new_stem.Goals as goal
 
 pub returns-then-is_slow : goal.returns-then-is_slow
 returns-then-is_slow c =
-    let slow_step = ap is_slow (sym c.requires.last_step.class_is) ∙ sym c.is_slow.ensures ∙ c.if-is_slow.true in record { stem_for = kept_serves _ _ slow_step c.requires.last_step.leaves (c.requires.cached.stem_is c.if-cache-eq1.true); stem_sized = c.requires.cached.sized }
+    let slow_step = ap is_slow (sym c.requires.last_step.class_is) ∙ sym c.is_slow.ensures ∙ c.if-is_slow.true in
+    record {
+      stem_for = kept_serves _ _ slow_step c.requires.last_step.leaves (c.requires.cached.stem_is c.if-cache-eq1.true);
+      stem_sized =
+          c.requires.cached.sized;
+    }

@@ -14,16 +14,25 @@ times_down-requires-then-is_class1 c =
     (rw c.times_down.ensures (sized-≤ (lit≤ tt) (times_down_sized c.requires.0.product c.requires.1)), sized-≤ (lit≤ tt) c.requires.0.time)
 
 pub divided_down-requires : goal.divided_down-requires
-divided_down-requires c =
-    (rw (c.times_down-then-is_class1.ensures, c.times_down.ensures) (sized-≤ (lit≤ tt) (times_down_sized (times_down_sized c.requires.0.product c.requires.1) c.requires.0.time)), sized-≤ (lit≤ tt) c.requires.3, c.requires.4)
+divided_down-requires c = (
+  rw (c.times_down-then-is_class1.ensures, c.times_down.ensures)
+      (sized-≤ (lit≤ tt) (times_down_sized (times_down_sized c.requires.0.product c.requires.1) c.requires.0.time)),
+  sized-≤ (lit≤ tt) c.requires.3,
+  c.requires.4,
+)
 
 pub times_down-requires-then-is_class1-2 : goal.times_down-requires-then-is_class1-2
-times_down-requires-then-is_class1-2 c =
-    (rw (c.divided_down.ensures, c.times_down-then-is_class1.ensures, c.times_down.ensures) (sized-≤ (lit≤ tt) (divided_down_sized (times_down_sized (times_down_sized c.requires.0.product c.requires.1) c.requires.0.time) c.requires.3 c.requires.4)), sized-≤ (lit≤ tt) c.requires.0.last)
+times_down-requires-then-is_class1-2 c = (
+  rw (c.divided_down.ensures, c.times_down-then-is_class1.ensures, c.times_down.ensures)
+      (sized-≤ (lit≤ tt) (divided_down_sized (times_down_sized
+      (times_down_sized c.requires.0.product c.requires.1) c.requires.0.time) c.requires.3 c.requires.4)),
+  sized-≤ (lit≤ tt) c.requires.0.last,
+)
 
 pub returns-then-is_class1 : goal.returns-then-is_class1
 returns-then-is_class1 c =
-    rw (c.times_down-then-is_class1-2.ensures, c.divided_down.ensures, c.times_down-then-is_class1.ensures, c.times_down.ensures) (sym (lower_one _ _ _ _ _ (ne_eqb _ 1 c.if-stem-eq1.false) (sym c.is_class1.ensures ∙ c.if-is_class1.true)))
+    rw (c.times_down-then-is_class1-2.ensures, c.divided_down.ensures, c.times_down-then-is_class1.ensures, c.times_down.ensures)
+    (sym (lower_one _ _ _ _ _ (ne_eqb _ 1 c.if-stem-eq1.false) (sym c.is_class1.ensures ∙ c.if-is_class1.true)))
 
 pub times_down-requires-3 : goal.times_down-requires-3
 times_down-requires-3 c =
@@ -31,4 +40,5 @@ times_down-requires-3 c =
 
 pub returns : goal.returns
 returns c =
-    rw (c.times_down-3.ensures, c.times_down-2.ensures) (sym (lower_other _ _ _ _ _ (ne_eqb _ 1 c.if-stem-eq1.false) (sym c.is_class1.ensures ∙ c.if-is_class1.false)))
+    rw (c.times_down-3.ensures, c.times_down-2.ensures) (sym (lower_other _ _ _ _ _ (ne_eqb _ 1 c.if-stem-eq1.false)
+    (sym c.is_class1.ensures ∙ c.if-is_class1.false)))

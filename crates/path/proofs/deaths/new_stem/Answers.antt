@@ -21,7 +21,8 @@ rate_sum-requires c =
 pub plus_up-more-requires : goal.plus_up-more-requires
 plus_up-more-requires c =
     let last : LastStep (lent c.args.words.now c.args.index.now c.args.table.now) c.args.time c.args.path c.args.tip c.args.exit = c.requires in
-    let so_far : SpentOn (net_of c.args.words.now) (path_of (net_of c.args.words.now) c.args.path c.args.tip.len) c.spent_on-so_far.result.grains c.spent_on-so_far.result.rates = record { grains_are = c.spent_on-so_far.ensures.grains_value; rates_are = c.spent_on-so_far.ensures.rates_value } in
+    let so_far : SpentOn (net_of c.args.words.now) (path_of (net_of c.args.words.now) c.args.path c.args.tip.len) c.spent_on-so_far.result.grains
+    c.spent_on-so_far.result.rates = record { grains_are = c.spent_on-so_far.ensures.grains_value; rates_are = c.spent_on-so_far.ensures.rates_value } in
     let h = last in (sized-≤ (lit≤ tt) (so_far_sized h so_far), sized-≤ (lit≤ tt) (rate_held_sized h.filled h.index h.leaves c.rate_sum.ensures))
 
 pub overflow_add-ones : goal.overflow_add-ones
@@ -32,31 +33,54 @@ overflow_add-ones c =
 pub stem_of_sums-requires : goal.stem_of_sums-requires
 stem_of_sums-requires c =
     let last : LastStep (lent c.args.words.now c.args.index.now c.args.table.now) c.args.time c.args.path c.args.tip c.args.exit = c.requires in
-    let so_far : SpentOn (net_of c.args.words.now) (path_of (net_of c.args.words.now) c.args.path c.args.tip.len) c.spent_on-so_far.result.grains c.spent_on-so_far.result.rates = record { grains_are = c.spent_on-so_far.ensures.grains_value; rates_are = c.spent_on-so_far.ensures.rates_value } in
-    let h = last in record { filled = (h.filled, h.known); time_value = (h.time_is, rw c.plus_up-more.ensures (plus_up_sized (so_far_sized h so_far) (rate_held_sized h.filled h.index h.leaves c.rate_sum.ensures)), omega (arith, ones_high h)) }
+    let so_far : SpentOn (net_of c.args.words.now) (path_of (net_of c.args.words.now) c.args.path c.args.tip.len) c.spent_on-so_far.result.grains
+    c.spent_on-so_far.result.rates = record { grains_are = c.spent_on-so_far.ensures.grains_value; rates_are = c.spent_on-so_far.ensures.rates_value } in
+    let h = last in record {
+      filled = (h.filled, h.known);
+      time_value = (
+        h.time_is,
+        rw c.plus_up-more.ensures (plus_up_sized (so_far_sized h so_far) (rate_held_sized h.filled h.index h.leaves c.rate_sum.ensures)),
+        omega (arith, ones_high h),
+      );
+    }
 
 pub returns-then-is_class1 : goal.returns-then-is_class1
 returns-then-is_class1 c =
     let last : LastStep (lent c.args.words.now c.args.index.now c.args.table.now) c.args.time c.args.path c.args.tip c.args.exit = c.requires in
-    let so_far : SpentOn (net_of c.args.words.now) (path_of (net_of c.args.words.now) c.args.path c.args.tip.len) c.spent_on-so_far.result.grains c.spent_on-so_far.result.rates = record { grains_are = c.spent_on-so_far.ensures.grains_value; rates_are = c.spent_on-so_far.ensures.rates_value } in
-    let h = last in record { stem_for = stem_one h so_far c.is_class1.ensures c.if-is_class1.true (rate_held h.filled h.index h.leaves c.rate_sum.ensures) c.plus_up-more.ensures c.stem_of_sums.ensures.stem_at; stem_sized = c.stem_of_sums.ensures.stem_sized }
+    let so_far : SpentOn (net_of c.args.words.now) (path_of (net_of c.args.words.now) c.args.path c.args.tip.len) c.spent_on-so_far.result.grains
+    c.spent_on-so_far.result.rates = record { grains_are = c.spent_on-so_far.ensures.grains_value; rates_are = c.spent_on-so_far.ensures.rates_value } in
+    let h = last in record {
+      stem_for = stem_one h so_far c.is_class1.ensures c.if-is_class1.true
+          (rate_held h.filled h.index h.leaves c.rate_sum.ensures) c.plus_up-more.ensures c.stem_of_sums.ensures.stem_at;
+      stem_sized =
+          c.stem_of_sums.ensures.stem_sized;
+    }
 
 pub overflow_add-all : goal.overflow_add-all
 overflow_add-all c =
-    let grains_are : c.grains.result ≡ grain_count_in c.args.table.now c.args.exit.index = c.grains.ensures ∙ ap (grain_count_in c.args.table.now) c.wide.ensures.0 in
+    let grains_are : c.grains.result ≡ grain_count_in c.args.table.now c.args.exit.index = c.grains.ensures
+    ∙ ap (grain_count_in c.args.table.now) c.wide.ensures.0 in
     let last : LastStep (lent c.args.words.now c.args.index.now c.args.table.now) c.args.time c.args.path c.args.tip c.args.exit = c.requires in
-    let so_far : SpentOn (net_of c.args.words.now) (path_of (net_of c.args.words.now) c.args.path c.args.tip.len) c.spent_on-so_far.result.grains c.spent_on-so_far.result.rates = record { grains_are = c.spent_on-so_far.ensures.grains_value; rates_are = c.spent_on-so_far.ensures.rates_value } in
+    let so_far : SpentOn (net_of c.args.words.now) (path_of (net_of c.args.words.now) c.args.path c.args.tip.len) c.spent_on-so_far.result.grains
+    c.spent_on-so_far.result.rates = record { grains_are = c.spent_on-so_far.ensures.grains_value; rates_are = c.spent_on-so_far.ensures.rates_value } in
     let h = last in omega (arith, grains_held_high h.filled h.index grains_are, so_far_high h so_far)
 
 pub stem_of_sums-requires-2 : goal.stem_of_sums-requires-2
 stem_of_sums-requires-2 c =
     let last : LastStep (lent c.args.words.now c.args.index.now c.args.table.now) c.args.time c.args.path c.args.tip c.args.exit = c.requires in
-    let so_far : SpentOn (net_of c.args.words.now) (path_of (net_of c.args.words.now) c.args.path c.args.tip.len) c.spent_on-so_far.result.grains c.spent_on-so_far.result.rates = record { grains_are = c.spent_on-so_far.ensures.grains_value; rates_are = c.spent_on-so_far.ensures.rates_value } in
+    let so_far : SpentOn (net_of c.args.words.now) (path_of (net_of c.args.words.now) c.args.path c.args.tip.len) c.spent_on-so_far.result.grains
+    c.spent_on-so_far.result.rates = record { grains_are = c.spent_on-so_far.ensures.grains_value; rates_are = c.spent_on-so_far.ensures.rates_value } in
     let h = last in record { filled = (h.filled, h.known); time_value = (h.time_is, sized-≤ (lit≤ tt) (so_far_sized h so_far), omega (arith, ones_high h)) }
 
 pub returns : goal.returns
 returns c =
-    let grains_are : c.grains.result ≡ grain_count_in c.args.table.now c.args.exit.index = c.grains.ensures ∙ ap (grain_count_in c.args.table.now) c.wide.ensures.0 in
+    let grains_are : c.grains.result ≡ grain_count_in c.args.table.now c.args.exit.index = c.grains.ensures
+    ∙ ap (grain_count_in c.args.table.now) c.wide.ensures.0 in
     let last : LastStep (lent c.args.words.now c.args.index.now c.args.table.now) c.args.time c.args.path c.args.tip c.args.exit = c.requires in
-    let so_far : SpentOn (net_of c.args.words.now) (path_of (net_of c.args.words.now) c.args.path c.args.tip.len) c.spent_on-so_far.result.grains c.spent_on-so_far.result.rates = record { grains_are = c.spent_on-so_far.ensures.grains_value; rates_are = c.spent_on-so_far.ensures.rates_value } in
-    let h = last in record { stem_for = stem_other h so_far c.is_class1.ensures c.if-is_class1.false (grains_held h.filled h.index grains_are) c.stem_of_sums-2.ensures.stem_at; stem_sized = c.stem_of_sums-2.ensures.stem_sized }
+    let so_far : SpentOn (net_of c.args.words.now) (path_of (net_of c.args.words.now) c.args.path c.args.tip.len) c.spent_on-so_far.result.grains
+    c.spent_on-so_far.result.rates = record { grains_are = c.spent_on-so_far.ensures.grains_value; rates_are = c.spent_on-so_far.ensures.rates_value } in
+    let h = last in record {
+      stem_for = stem_other h so_far c.is_class1.ensures c.if-is_class1.false
+          (grains_held h.filled h.index grains_are) c.stem_of_sums-2.ensures.stem_at;
+      stem_sized = c.stem_of_sums-2.ensures.stem_sized;
+    }

@@ -44,18 +44,30 @@ times_ten-above-requires c =
 
 pub product-p-requires : goal.product-p-requires
 product-p-requires c =
-    let down_is : c.times_ten-t.result ≡ times_ten (times_down (mission_time (net_of c.args.words.now)) (of_whole (1000000 - c.args.n))) (negsuc 5) = scaled times_down (negsuc 5) c.times_ten-t.ensures c.times_down.ensures c.requires.time_value.0 c.of_whole-rest.ensures in
-    let down_sized : Sized 9 100 c.times_ten-t.result = let inside : c.args.n ≤ 1000000 = omega (arith, c.if-n-ge1000000.false) in rw (down_is ∙ sym (remaining_time_down c.requires.filled.0.indexes.valid _ inside)) (time_down_sized c.requires.filled.0.indexes.valid _ inside) in
+    let down_is : c.times_ten-t.result ≡ times_ten (times_down (mission_time (net_of c.args.words.now)) (of_whole (1000000 - c.args.n))) (negsuc 5) =
+    scaled times_down (negsuc 5) c.times_ten-t.ensures c.times_down.ensures c.requires.time_value.0 c.of_whole-rest.ensures in
+    let down_sized : Sized 9 100 c.times_ten-t.result = let inside : c.args.n ≤ 1000000 = omega (arith, c.if-n-ge1000000.false) in
+    rw (down_is ∙ sym (remaining_time_down c.requires.filled.0.indexes.valid _ inside)) (time_down_sized c.requires.filled.0.indexes.valid _ inside) in
     (c.requires.filled.0, c.requires.filled.1, down_sized)
 
 pub last_factor-last-requires : goal.last_factor-last-requires
 last_factor-last-requires c =
-    let up_is : c.times_ten-above.result ≡ times_ten (times_up (mission_time (net_of c.args.words.now)) (of_whole (1000000 - c.args.n))) (negsuc 5) = scaled times_up (negsuc 5) c.times_ten-above.ensures c.times_up.ensures c.requires.time_value.0 c.of_whole-rest.ensures in
-    let up_sized : Sized 9 100 c.times_ten-above.result = let inside : c.args.n ≤ 1000000 = omega (arith, c.if-n-ge1000000.false) in rw (up_is ∙ sym (remaining_time_up c.requires.filled.0.indexes.valid _ inside)) (time_up_sized c.requires.filled.0.indexes.valid _ inside) in
+    let up_is : c.times_ten-above.result ≡ times_ten (times_up (mission_time (net_of c.args.words.now)) (of_whole (1000000 - c.args.n))) (negsuc 5) =
+    scaled times_up (negsuc 5) c.times_ten-above.ensures c.times_up.ensures c.requires.time_value.0 c.of_whole-rest.ensures in
+    let up_sized : Sized 9 100 c.times_ten-above.result = let inside : c.args.n ≤ 1000000 = omega (arith, c.if-n-ge1000000.false) in
+    rw (up_is ∙ sym (remaining_time_up c.requires.filled.0.indexes.valid _ inside)) (time_up_sized c.requires.filled.0.indexes.valid _ inside) in
     (up_sized, sized-≤ (lit≤ tt) c.requires.time_value.1, c.requires.time_value.2)
 
 pub returns : goal.returns
 returns c =
-    let down_is : c.times_ten-t.result ≡ times_ten (times_down (mission_time (net_of c.args.words.now)) (of_whole (1000000 - c.args.n))) (negsuc 5) = scaled times_down (negsuc 5) c.times_ten-t.ensures c.times_down.ensures c.requires.time_value.0 c.of_whole-rest.ensures in
-    let up_is : c.times_ten-above.result ≡ times_ten (times_up (mission_time (net_of c.args.words.now)) (of_whole (1000000 - c.args.n))) (negsuc 5) = scaled times_up (negsuc 5) c.times_ten-above.ensures c.times_up.ensures c.requires.time_value.0 c.of_whole-rest.ensures in
-    let inside : c.args.n < 1000000 = omega (arith, c.if-n-ge1000000.false) in let stem = stem_rest c.requires.filled.0.indexes.valid inside refl down_is up_is c.product-p.ensures c.last_factor-last.ensures in record { stem_at = stem; stem_sized = stem_sized c.requires.filled.0.indexes.valid inside c.requires.filled.1 c.requires.time_value.1 c.requires.time_value.2 refl stem }
+    let down_is : c.times_ten-t.result ≡ times_ten (times_down (mission_time (net_of c.args.words.now)) (of_whole (1000000 - c.args.n))) (negsuc 5) =
+    scaled times_down (negsuc 5) c.times_ten-t.ensures c.times_down.ensures c.requires.time_value.0 c.of_whole-rest.ensures in
+    let up_is : c.times_ten-above.result ≡ times_ten (times_up (mission_time (net_of c.args.words.now)) (of_whole (1000000 - c.args.n))) (negsuc 5) =
+    scaled times_up (negsuc 5) c.times_ten-above.ensures c.times_up.ensures c.requires.time_value.0 c.of_whole-rest.ensures in
+    let inside : c.args.n < 1000000 = omega (arith, c.if-n-ge1000000.false) in let stem =
+    stem_rest c.requires.filled.0.indexes.valid inside refl down_is up_is c.product-p.ensures c.last_factor-last.ensures in
+    record {
+      stem_at = stem;
+      stem_sized = stem_sized c.requires.filled.0.indexes.valid inside c.requires.filled.1 c.requires.time_value.1
+          c.requires.time_value.2 refl stem;
+    }

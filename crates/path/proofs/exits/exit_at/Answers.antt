@@ -17,8 +17,19 @@ share-requires c = exit_small c.requires.0 (c.wide-j.ensures.0 ∙ c.slot-x.ensu
 
 pub next_tip-next-requires : goal.next_tip-next-requires
 next_tip-next-requires c =
-    let j = c.wide-j.ensures.0 ∙ c.slot-x.ensures in record { sized = (c.requires.0.upper, exit_share_sized c.requires.0 j c.share.ensures, mean_sized c.requires.0 c.mean_up-mean.ensures, time_sized c.requires.0, c.requires.0.ones, c.requires.0.room); nth_value = c.requires.1 }
+    let j = c.wide-j.ensures.0 ∙ c.slot-x.ensures in record {
+      sized = (
+        c.requires.0.upper,
+        exit_share_sized c.requires.0 j c.share.ensures,
+        mean_sized c.requires.0 c.mean_up-mean.ensures,
+        time_sized c.requires.0,
+        c.requires.0.ones,
+        c.requires.0.room,
+      );
+      nth_value = c.requires.1;
+    }
 
 pub returns : goal.returns
 returns c =
-    exit_of c.requires.0 (c.wide-j.ensures.0 ∙ c.slot-x.ensures) c.word_of-w.ensures c.slot-x.ensures c.is_fast.ensures c.class_of-class.ensures c.to.ensures.value c.share.ensures c.mean_up-mean.ensures c.next_tip-next.ensures
+    exit_of c.requires.0 (c.wide-j.ensures.0 ∙ c.slot-x.ensures) c.word_of-w.ensures c.slot-x.ensures c.is_fast.ensures c.class_of-class.ensures
+    c.to.ensures.value c.share.ensures c.mean_up-mean.ensures c.next_tip-next.ensures

@@ -21,7 +21,8 @@ times_up-requires-in-Class3 c = (by_share_operand c.requires.0 c.requires.1 c.ti
 pub returns-in-Class1 : goal.returns-in-Class1
 unfolding upper_by
 returns-in-Class1 c =
-    c.divided_up.ensures ∙ ap (λ f. divided_up f c.args.nth) (c.times_up.ensures ∙ ap (λ f. times_up f c.args.time) c.times_up-by_share.ensures) ∙ sym (ap (λ x. upper_by (class_for x) c.args.nth c.args.upper c.args.share c.args.mean c.args.time) c.in-Class1.is)
+    c.divided_up.ensures ∙ ap (λ f. divided_up f c.args.nth) (c.times_up.ensures ∙ ap (λ f. times_up f c.args.time) c.times_up-by_share.ensures)
+    ∙ sym (ap (λ x. upper_by (class_for x) c.args.nth c.args.upper c.args.share c.args.mean c.args.time) c.in-Class1.is)
 
 pub returns-in-Class2 : goal.returns-in-Class2
 unfolding upper_by
@@ -31,4 +32,5 @@ returns-in-Class2 c =
 pub returns-in-Class3 : goal.returns-in-Class3
 unfolding upper_by
 returns-in-Class3 c =
-    c.times_up-in-Class3.ensures ∙ ap (λ f. times_up f c.args.mean) c.times_up-by_share.ensures ∙ sym (ap (λ x. upper_by (class_for x) c.args.nth c.args.upper c.args.share c.args.mean c.args.time) c.in-Class3.is)
+    c.times_up-in-Class3.ensures ∙ ap (λ f. times_up f c.args.mean) c.times_up-by_share.ensures
+    ∙ sym (ap (λ x. upper_by (class_for x) c.args.nth c.args.upper c.args.share c.args.mean c.args.time) c.in-Class3.is)

@@ -13,10 +13,18 @@ word_of-w-requires c = (index_small c.requires.0.indexes.valid c.requires.1, pla
 
 pub mean_up-requires : goal.mean_up-requires
 mean_up-requires c =
-    let state_is : c.from-state.result ≡ (transition (net_of c.args.words.now) c.args.j).from = state_read c.requires.0.indexes c.requires.1 c.word_of-w.ensures c.from-state.ensures.value in
+    let state_is : c.from-state.result ≡ (transition (net_of c.args.words.now) c.args.j).from =
+    state_read c.requires.0.indexes c.requires.1 c.word_of-w.ensures c.from-state.ensures.value in
     omega (arith, state_is, origin_small c.requires.0.indexes.valid c.requires.1)
 
 pub returns : goal.returns
 returns c =
-    let state_is : c.from-state.result ≡ (transition (net_of c.args.words.now) c.args.j).from = state_read c.requires.0.indexes c.requires.1 c.word_of-w.ensures c.from-state.ensures.value in
-    let v = step_valid c.requires.0.indexes.valid c.requires.1 in let mean = c.mean_up.ensures ∙ ap (mean_up_in c.args.table.now) state_is ∙ c.requires.0.tabled.states.means_up _ v.from_low v.from_high in record { class_value = class_read c.requires.0.indexes c.requires.1 c.word_of-w.ensures c.is_fast.ensures mean c.class_of-class.ensures; state_value = state_is }
+    let state_is : c.from-state.result ≡ (transition (net_of c.args.words.now) c.args.j).from =
+    state_read c.requires.0.indexes c.requires.1 c.word_of-w.ensures c.from-state.ensures.value in
+    let v = step_valid c.requires.0.indexes.valid c.requires.1 in let mean = c.mean_up.ensures ∙ ap (mean_up_in c.args.table.now) state_is
+    ∙ c.requires.0.tabled.states.means_up _ v.from_low v.from_high in
+    record {
+      class_value = class_read c.requires.0.indexes c.requires.1 c.word_of-w.ensures c.is_fast.ensures mean c.class_of-class.ensures;
+      state_value =
+          state_is;
+    }

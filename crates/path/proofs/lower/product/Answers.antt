@@ -82,8 +82,13 @@ divided_down-p-requires c =
     let share_sized : Sized 9 40 c.share.result = share_held_sized filled inside c.share.ensures in
     let so_far_known : Known (net_of c.args.words.now) c.args.path c.loop-i.i = known_less _ c.loop-i.invariant.0 known in
     let so_far_sized : Sized 9 30000 c.loop-i.p = multiplied_sized filled.indexes.valid so_far_known c.requires.2 c.loop-i.invariant.1 in
-    let more_ones : c.loop-i.k < 24 = omega (arith, ones_high filled.indexes.valid so_far_known c.loop-i.invariant.1, known.short, c.loop-i-test.true) in
-    (rw (c.times_down-then-is_class1.ensures, c.times_down.ensures) (sized-≤ (lit≤ tt) (times_down_sized (times_down_sized so_far_sized share_sized) c.requires.2)), rw c.of_whole.ensures (sized-≤ (lit≤ tt) (count_sized _ (le_trans {m = 24} (omega (arith, more_ones)) (lit≤ tt)))), rw c.of_whole.ensures (of_whole_above _ (omega arith)))
+    let more_ones : c.loop-i.k < 24 = omega (arith, ones_high filled.indexes.valid so_far_known c.loop-i.invariant.1, known.short, c.loop-i-test.true) in (
+      rw (c.times_down-then-is_class1.ensures, c.times_down.ensures)
+          (sized-≤ (lit≤ tt) (times_down_sized (times_down_sized so_far_sized share_sized) c.requires.2)),
+      rw c.of_whole.ensures
+          (sized-≤ (lit≤ tt) (count_sized _ (le_trans {m = 24} (omega (arith, more_ones)) (lit≤ tt)))),
+      rw c.of_whole.ensures (of_whole_above _ (omega arith)),
+    )
 
 pub factor-requires : goal.factor-requires
 factor-requires c =
@@ -111,11 +116,28 @@ loop-i-smaller c = omega (arith, c.loop-i-test.true)
 
 pub loop-i-preserved : goal.loop-i-preserved
 loop-i-preserved c =
-    let tested : c.is_class1.result ≡ is_class1 (step_class (net_of c.args.words.now) c.wide-j.result) = rw c.left_by-step.ensures.class_value at c.is_class1.ensures in
+    let tested : c.is_class1.result ≡ is_class1 (step_class (net_of c.args.words.now) c.wide-j.result) =
+    rw c.left_by-step.ensures.class_value at c.is_class1.ensures in
     let filled : Filled (lent c.args.words.now c.args.index.now c.args.table.now) = c.requires.0 in
     let known : Known (net_of c.args.words.now) c.args.path c.args.len = c.requires.1 in
-    let inside : c.wide-j.result < length (net_of c.args.words.now).table = rw c.wide-j.ensures.0 (known.inside _ c.loop-i-test.true) in
-    (omega (arith, c.loop-i-test.true), rw (path_more (net_of c.args.words.now) c.args.path c.loop-i.i c.wide-j.ensures.0) (elim c.if-is_class1.branch [ then-is_class1 w ↦ rw (w.p-is, w.k-is, w.divided_down-p.ensures, w.of_whole.ensures, w.times_down-then-is_class1.ensures, w.times_down.ensures) (multiplied_one _ c.loop-i.invariant.1 (one_true _ (sym tested ∙ w.if-is_class1.true)) (share_held filled inside w.share.ensures)) | else-is_class1 w ↦ rw (w.p-is, w.k-is, w.times_down-p.ensures) (multiplied_other _ c.loop-i.invariant.1 (one_false _ (sym tested ∙ w.if-is_class1.false)) (factor_held filled inside w.factor.ensures)) ]))
+    let inside : c.wide-j.result < length (net_of c.args.words.now).table = rw c.wide-j.ensures.0 (known.inside _ c.loop-i-test.true) in (
+      omega (arith, c.loop-i-test.true),
+      rw (path_more (net_of c.args.words.now) c.args.path c.loop-i.i c.wide-j.ensures.0)
+          (elim c.if-is_class1.branch [
+            | then-is_class1 w ↦ rw (
+              w.p-is,
+              w.k-is,
+              w.divided_down-p.ensures,
+              w.of_whole.ensures,
+              w.times_down-then-is_class1.ensures,
+              w.times_down.ensures,
+            )
+                (multiplied_one _ c.loop-i.invariant.1 (one_true _ (sym tested ∙ w.if-is_class1.true)) (share_held filled inside w.share.ensures))
+            | else-is_class1 w
+                ↦ rw (w.p-is, w.k-is, w.times_down-p.ensures) (multiplied_other _ c.loop-i.invariant.1 (one_false _ (sym tested ∙ w.if-is_class1.false))
+                (factor_held filled inside w.factor.ensures))
+          ]),
+    )
 
 pub returns : goal.returns
 returns c =

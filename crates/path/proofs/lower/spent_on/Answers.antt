@@ -46,8 +46,11 @@ pub plus_up-a-requires : goal.plus_up-a-requires
 plus_up-a-requires c =
     let filled : Filled (lent c.args.words.now c.args.index.now c.args.table.now) = c.requires.0 in
     let known : Known (net_of c.args.words.now) c.args.path c.args.len = c.requires.1 in
-    let inside : c.wide-j.result < length (net_of c.args.words.now).table = rw c.wide-j.ensures.0 (known.inside _ c.loop-i-test.true) in
-    (sized-≤ (lit≤ tt) (spent_sized filled.indexes.valid (known_less _ c.loop-i.invariant.0 known) c.loop-i.invariant.1), sized-≤ (lit≤ tt) (rate_held_sized filled inside c.left_by-step.ensures.state_value c.rate_sum.ensures))
+    let inside : c.wide-j.result < length (net_of c.args.words.now).table = rw c.wide-j.ensures.0 (known.inside _ c.loop-i-test.true) in (
+      sized-≤ (lit≤ tt) (spent_sized filled.indexes.valid (known_less _ c.loop-i.invariant.0 known) c.loop-i.invariant.1),
+      sized-≤ (lit≤ tt)
+          (rate_held_sized filled inside c.left_by-step.ensures.state_value c.rate_sum.ensures),
+    )
 
 pub grains-n-requires : goal.grains-n-requires
 grains-n-requires c =
@@ -60,7 +63,8 @@ pub overflow_add-n : goal.overflow_add-n
 overflow_add-n c =
     let filled : Filled (lent c.args.words.now c.args.index.now c.args.table.now) = c.requires.0 in
     let known : Known (net_of c.args.words.now) c.args.path c.args.len = c.requires.1 in
-    let so_far_short : length (path_of (net_of c.args.words.now) c.args.path c.loop-i.i) ≤ 24 = omega (arith, path_length (net_of c.args.words.now) c.args.path c.loop-i.i, known.short, c.loop-i.invariant.0) in
+    let so_far_short : length (path_of (net_of c.args.words.now) c.args.path c.loop-i.i) ≤ 24 =
+    omega (arith, path_length (net_of c.args.words.now) c.args.path c.loop-i.i, known.short, c.loop-i.invariant.0) in
     let inside : c.wide-j.result < length (net_of c.args.words.now).table = rw c.wide-j.ensures.0 (known.inside _ c.loop-i-test.true) in
     omega (arith, grains_held_high filled inside c.grains-n.ensures, spent_high c.loop-i.invariant.1 so_far_short)
 
@@ -74,12 +78,23 @@ loop-i-smaller c = omega (arith, c.loop-i-test.true)
 
 pub loop-i-preserved : goal.loop-i-preserved
 loop-i-preserved c =
-    let tested : c.is_class1.result ≡ is_class1 (step_class (net_of c.args.words.now) c.wide-j.result) = rw c.left_by-step.ensures.class_value at c.is_class1.ensures in
+    let tested : c.is_class1.result ≡ is_class1 (step_class (net_of c.args.words.now) c.wide-j.result) =
+    rw c.left_by-step.ensures.class_value at c.is_class1.ensures in
     let filled : Filled (lent c.args.words.now c.args.index.now c.args.table.now) = c.requires.0 in
     let known : Known (net_of c.args.words.now) c.args.path c.args.len = c.requires.1 in
-    let inside : c.wide-j.result < length (net_of c.args.words.now).table = rw c.wide-j.ensures.0 (known.inside _ c.loop-i-test.true) in
-    (omega (arith, c.loop-i-test.true), rw (path_more (net_of c.args.words.now) c.args.path c.loop-i.i c.wide-j.ensures.0) (elim c.if-is_class1.branch [ then-is_class1 w ↦ rw (w.n-is, w.a-is, w.plus_up-a.ensures) (spent_one _ c.loop-i.invariant.1 (one_true _ (sym tested ∙ w.if-is_class1.true)) (rate_held filled inside c.left_by-step.ensures.state_value w.rate_sum.ensures)) | else-is_class1 w ↦ rw (w.n-is, w.a-is) (spent_other _ c.loop-i.invariant.1 (one_false _ (sym tested ∙ w.if-is_class1.false)) (grains_held filled inside w.grains-n.ensures)) ]))
+    let inside : c.wide-j.result < length (net_of c.args.words.now).table = rw c.wide-j.ensures.0 (known.inside _ c.loop-i-test.true) in (
+      omega (arith, c.loop-i-test.true),
+      rw (path_more (net_of c.args.words.now) c.args.path c.loop-i.i c.wide-j.ensures.0)
+          (elim c.if-is_class1.branch [
+            | then-is_class1 w ↦ rw (w.n-is, w.a-is, w.plus_up-a.ensures)
+                (spent_one _ c.loop-i.invariant.1 (one_true _ (sym tested ∙ w.if-is_class1.true))
+                (rate_held filled inside c.left_by-step.ensures.state_value w.rate_sum.ensures))
+            | else-is_class1 w ↦ rw (w.n-is, w.a-is)
+                (spent_other _ c.loop-i.invariant.1 (one_false _ (sym tested ∙ w.if-is_class1.false)) (grains_held filled inside w.grains-n.ensures))
+          ]),
+    )
 
 pub returns : goal.returns
 returns c =
-    let e : c.loop-i.i ≡ c.args.len = omega (arith, c.loop-i.invariant.0, c.loop-i-test.false) in let h = rw e at c.loop-i.invariant.1 in record { grains_value = h.grains_are; rates_value = h.rates_are }
+    let e : c.loop-i.i ≡ c.args.len = omega (arith, c.loop-i.invariant.0, c.loop-i-test.false) in let h = rw e at c.loop-i.invariant.1 in
+    record { grains_value = h.grains_are; rates_value = h.rates_are }

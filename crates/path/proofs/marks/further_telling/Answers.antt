@@ -16,8 +16,12 @@ times_up_telling-by_time-requires c =
     (by_share_operand c.requires.0 c.requires.1 (figure_told c.times_up_telling-by_share.ensures), small_operand c.requires.3)
 
 pub divided_up_telling-divided-requires : goal.divided_up_telling-divided-requires
-divided_up_telling-divided-requires c =
-    (by_time_operand c.requires.0 c.requires.1 (figure_told c.times_up_telling-by_share.ensures) c.requires.3 (figure_told c.times_up_telling-by_time.ensures), sized-≤ (lit≤ tt) c.requires.4, c.requires.5)
+divided_up_telling-divided-requires c = (
+  by_time_operand c.requires.0 c.requires.1 (figure_told c.times_up_telling-by_share.ensures) c.requires.3
+      (figure_told c.times_up_telling-by_time.ensures),
+  sized-≤ (lit≤ tt) c.requires.4,
+  c.requires.5,
+)
 
 pub times_up_telling-by_mean-requires : goal.times_up_telling-by_mean-requires
 times_up_telling-by_mean-requires c =
@@ -26,14 +30,19 @@ times_up_telling-by_mean-requires c =
 pub returns-in-Class1 : goal.returns-in-Class1
 unfolding upper_by upper_by_kept
 returns-in-Class1 c =
-    told_thrice times_up times_up divided_up times_keeps times_keeps divided_keeps c.times_up_telling-by_share.ensures c.times_up_telling-by_time.ensures c.divided_up_telling-divided.ensures c.both.ensures c.both-kept.ensures ∙ sym (ap (λ x. telling_by (class_for x) c.args.nth c.args.upper c.args.share c.args.mean c.args.mean_kept c.args.time) c.in-Class1.is)
+    told_thrice times_up times_up divided_up times_keeps times_keeps divided_keeps c.times_up_telling-by_share.ensures c.times_up_telling-by_time.ensures
+    c.divided_up_telling-divided.ensures c.both.ensures c.both-kept.ensures
+    ∙ sym (ap (λ x. telling_by (class_for x) c.args.nth c.args.upper c.args.share c.args.mean c.args.mean_kept c.args.time) c.in-Class1.is)
 
 pub returns-in-Class2 : goal.returns-in-Class2
 unfolding upper_by upper_by_kept
 returns-in-Class2 c =
-    c.times_up_telling-by_share.ensures ∙ sym (ap (λ x. telling_by (class_for x) c.args.nth c.args.upper c.args.share c.args.mean c.args.mean_kept c.args.time) c.in-Class2.is)
+    c.times_up_telling-by_share.ensures ∙ sym (ap (λ x. telling_by
+    (class_for x) c.args.nth c.args.upper c.args.share c.args.mean c.args.mean_kept c.args.time) c.in-Class2.is)
 
 pub returns-in-Class3 : goal.returns-in-Class3
 unfolding upper_by upper_by_kept
 returns-in-Class3 c =
-    told_twice times_up times_up times_keeps times_keeps c.args.mean_kept c.times_up_telling-by_share.ensures c.times_up_telling-by_mean.ensures c.both-in-Class3.ensures c.both-kept-in-Class3.ensures ∙ sym (ap (λ x. telling_by (class_for x) c.args.nth c.args.upper c.args.share c.args.mean c.args.mean_kept c.args.time) c.in-Class3.is)
+    told_twice times_up times_up times_keeps times_keeps c.args.mean_kept c.times_up_telling-by_share.ensures c.times_up_telling-by_mean.ensures
+    c.both-in-Class3.ensures c.both-kept-in-Class3.ensures
+    ∙ sym (ap (λ x. telling_by (class_for x) c.args.nth c.args.upper c.args.share c.args.mean c.args.mean_kept c.args.time) c.in-Class3.is)

@@ -12,10 +12,15 @@ times_down_telling-by_time-requires c =
     (rw (figure_told c.times_down_telling-by_rate.ensures) (sized-≤ (lit≤ tt) (times_down_sized c.requires.0 c.requires.1)), sized-≤ (lit≤ tt) c.requires.2)
 
 pub divided_down_telling-divided-requires : goal.divided_down_telling-divided-requires
-divided_down_telling-divided-requires c =
-    (rw (figure_told c.times_down_telling-by_time.ensures, figure_told c.times_down_telling-by_rate.ensures) (sized-≤ (lit≤ tt) (times_down_sized (times_down_sized c.requires.0 c.requires.1) c.requires.2)), sized-≤ (lit≤ tt) c.requires.3, c.requires.4)
+divided_down_telling-divided-requires c = (
+  rw (figure_told c.times_down_telling-by_time.ensures, figure_told c.times_down_telling-by_rate.ensures)
+      (sized-≤ (lit≤ tt) (times_down_sized (times_down_sized c.requires.0 c.requires.1) c.requires.2)),
+  sized-≤ (lit≤ tt) c.requires.3,
+  c.requires.4,
+)
 
 pub returns : goal.returns
 unfolding one_of
 returns c =
-    told_thrice times_down times_down divided_down times_keeps times_keeps divided_keeps c.times_down_telling-by_rate.ensures c.times_down_telling-by_time.ensures c.divided_down_telling-divided.ensures c.both.ensures c.both-kept.ensures
+    told_thrice times_down times_down divided_down times_keeps times_keeps divided_keeps c.times_down_telling-by_rate.ensures
+    c.times_down_telling-by_time.ensures c.divided_down_telling-divided.ensures c.both.ensures c.both-kept.ensures

@@ -49,8 +49,11 @@ pub plus_up_telling-more-requires : goal.plus_up_telling-more-requires
 plus_up_telling-more-requires c =
     let filled : Filled (lent c.args.words.now c.args.index.now c.args.table.now) = c.requires.0 in
     let known : Known (net_of c.args.words.now) c.args.path c.args.len = c.requires.1 in
-    let inside : c.wide-j.result < length (net_of c.args.words.now).table = rw c.wide-j.ensures.0 (known.inside _ c.loop-i-test.true) in
-    (sized-≤ (lit≤ tt) (spent_sized filled.indexes.valid (known_less _ c.loop-i.invariant.0 known) c.loop-i.invariant.1.spent), sized-≤ (lit≤ tt) (rate_held_sized filled inside c.left_by-step.ensures.state_value c.rate_sum.ensures))
+    let inside : c.wide-j.result < length (net_of c.args.words.now).table = rw c.wide-j.ensures.0 (known.inside _ c.loop-i-test.true) in (
+      sized-≤ (lit≤ tt) (spent_sized filled.indexes.valid (known_less _ c.loop-i.invariant.0 known) c.loop-i.invariant.1.spent),
+      sized-≤ (lit≤ tt)
+          (rate_held_sized filled inside c.left_by-step.ensures.state_value c.rate_sum.ensures),
+    )
 
 pub rate_sum_kept-requires : goal.rate_sum_kept-requires
 rate_sum_kept-requires c =
@@ -62,8 +65,15 @@ rate_sum_kept-requires c =
 pub overflow_add-k : goal.overflow_add-k
 overflow_add-k c =
     let known : Known (net_of c.args.words.now) c.args.path c.args.len = c.requires.1 in
-    let so_far_short : length (path_of (net_of c.args.words.now) c.args.path c.loop-i.i) ≤ 24 = omega (arith, path_length (net_of c.args.words.now) c.args.path c.loop-i.i, known.short, c.loop-i.invariant.0) in
-    let so_far_ones : c.loop-i.k ≤ 24 = omega (arith, c.loop-i.invariant.1.ones_are, class1_count-≤ (net_of c.args.words.now) (path_of (net_of c.args.words.now) c.args.path c.loop-i.i), so_far_short) in
+    let so_far_short : length (path_of (net_of c.args.words.now) c.args.path c.loop-i.i) ≤ 24 =
+    omega (arith, path_length (net_of c.args.words.now) c.args.path c.loop-i.i, known.short, c.loop-i.invariant.0) in
+    let so_far_ones : c.loop-i.k ≤ 24 = omega (
+      arith,
+      c.loop-i.invariant.1.ones_are,
+      class1_count-≤ (net_of c.args.words.now)
+          (path_of (net_of c.args.words.now) c.args.path c.loop-i.i),
+      so_far_short,
+    ) in
     omega (arith, so_far_ones)
 
 pub grains-n-requires : goal.grains-n-requires
@@ -77,7 +87,8 @@ pub overflow_add-n : goal.overflow_add-n
 overflow_add-n c =
     let filled : Filled (lent c.args.words.now c.args.index.now c.args.table.now) = c.requires.0 in
     let known : Known (net_of c.args.words.now) c.args.path c.args.len = c.requires.1 in
-    let so_far_short : length (path_of (net_of c.args.words.now) c.args.path c.loop-i.i) ≤ 24 = omega (arith, path_length (net_of c.args.words.now) c.args.path c.loop-i.i, known.short, c.loop-i.invariant.0) in
+    let so_far_short : length (path_of (net_of c.args.words.now) c.args.path c.loop-i.i) ≤ 24 =
+    omega (arith, path_length (net_of c.args.words.now) c.args.path c.loop-i.i, known.short, c.loop-i.invariant.0) in
     let inside : c.wide-j.result < length (net_of c.args.words.now).table = rw c.wide-j.ensures.0 (known.inside _ c.loop-i-test.true) in
     let most = spent_high c.loop-i.invariant.1.spent so_far_short in omega (arith, grains_held_high filled inside c.grains-n.ensures, most)
 
@@ -98,11 +109,24 @@ loop-i-smaller c = omega (arith, c.loop-i-test.true)
 
 pub loop-i-preserved : goal.loop-i-preserved
 loop-i-preserved c =
-    let tested : c.is_class1.result ≡ is_class1 (step_class (net_of c.args.words.now) c.wide-j.result) = rw c.left_by-step.ensures.class_value at c.is_class1.ensures in
+    let tested : c.is_class1.result ≡ is_class1 (step_class (net_of c.args.words.now) c.wide-j.result) =
+    rw c.left_by-step.ensures.class_value at c.is_class1.ensures in
     let filled : Filled (lent c.args.words.now c.args.index.now c.args.table.now) = c.requires.0 in
     let known : Known (net_of c.args.words.now) c.args.path c.args.len = c.requires.1 in
-    let inside : c.wide-j.result < length (net_of c.args.words.now).table = rw c.wide-j.ensures.0 (known.inside _ c.loop-i-test.true) in
-    (omega (arith, c.loop-i-test.true), rw (path_more (net_of c.args.words.now) c.args.path c.loop-i.i c.wide-j.ensures.0) (elim c.if-is_class1.branch [ then-is_class1 w ↦ rw (w.n-is, w.n_kept-is, w.a-is, w.a_kept-is, w.k-is) (spent_marked_one c.loop-i.invariant.1 _ (one_true _ (sym tested ∙ w.if-is_class1.true)) (rate_held filled inside c.left_by-step.ensures.state_value w.rate_sum.ensures) (rate_kept_held filled inside c.left_by-step.ensures.state_value w.rate_sum_kept.ensures) w.plus_up_telling-more.ensures w.both.ensures w.both-a_kept.ensures) | else-is_class1 w ↦ rw (w.n-is, w.n_kept-is, w.a-is, w.a_kept-is, w.k-is) (spent_marked_other c.loop-i.invariant.1 _ (one_false _ (sym tested ∙ w.if-is_class1.false)) (grains_held filled inside w.grains-n.ensures) (grains_kept_held filled inside w.grains_kept.ensures) w.both-n_kept.ensures) ]))
+    let inside : c.wide-j.result < length (net_of c.args.words.now).table = rw c.wide-j.ensures.0 (known.inside _ c.loop-i-test.true) in (
+      omega (arith, c.loop-i-test.true),
+      rw (path_more (net_of c.args.words.now) c.args.path c.loop-i.i c.wide-j.ensures.0)
+          (elim c.if-is_class1.branch [
+            | then-is_class1 w ↦ rw (w.n-is, w.n_kept-is, w.a-is, w.a_kept-is, w.k-is)
+                (spent_marked_one c.loop-i.invariant.1 _ (one_true _ (sym tested ∙ w.if-is_class1.true))
+                (rate_held filled inside c.left_by-step.ensures.state_value w.rate_sum.ensures)
+                (rate_kept_held filled inside c.left_by-step.ensures.state_value w.rate_sum_kept.ensures) w.plus_up_telling-more.ensures w.both.ensures
+                w.both-a_kept.ensures)
+            | else-is_class1 w ↦ rw (w.n-is, w.n_kept-is, w.a-is, w.a_kept-is, w.k-is)
+                (spent_marked_other c.loop-i.invariant.1 _ (one_false _ (sym tested ∙ w.if-is_class1.false)) (grains_held filled inside w.grains-n.ensures)
+                (grains_kept_held filled inside w.grains_kept.ensures) w.both-n_kept.ensures)
+          ]),
+    )
 
 pub returns : goal.returns
 returns c =

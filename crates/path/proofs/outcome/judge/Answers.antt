@@ -25,9 +25,25 @@ returns-then-left-eq0 c =
 pub returns-then-at_or_below : goal.returns-then-at_or_below
 unfolding judged decided
 returns-then-at_or_below c =
-    rw (c.if-named.false, ne_eqb _ _ c.if-exits-eq0.false, lt-leb _ _ c.if-entry_limit-before.false, ne_eqb _ _ c.if-left-eq0.false, sym c.at_or_below.ensures ∙ c.if-at_or_below.true, decided)
+    rw (
+      c.if-named.false,
+      ne_eqb _ _ c.if-exits-eq0.false,
+      lt-leb _ _ c.if-entry_limit-before.false,
+      ne_eqb _ _ c.if-left-eq0.false,
+      sym c.at_or_below.ensures
+          ∙ c.if-at_or_below.true,
+      decided,
+    )
 
 pub returns : goal.returns
 unfolding judged decided
 returns c =
-    rw (c.if-named.false, ne_eqb _ _ c.if-exits-eq0.false, lt-leb _ _ c.if-entry_limit-before.false, ne_eqb _ _ c.if-left-eq0.false, sym c.at_or_below.ensures ∙ c.if-at_or_below.false, decided)
+    rw (
+      c.if-named.false,
+      ne_eqb _ _ c.if-exits-eq0.false,
+      lt-leb _ _ c.if-entry_limit-before.false,
+      ne_eqb _ _ c.if-left-eq0.false,
+      sym c.at_or_below.ensures
+          ∙ c.if-at_or_below.false,
+      decided,
+    )

@@ -32,8 +32,12 @@ loop-j-smaller c = omega (arith, c.loop-j-test.true)
 
 pub loop-j-preserved : goal.loop-j-preserved
 loop-j-preserved c =
-    let inside : c.loop-j.j < length (net_of c.args.words.now).table = omega (arith, c.loop-j-test.true, c.requires.1) in
-    (omega (arith, c.loop-j-test.true), rw (add-one c.loop-j.j) (targets_more _ (target_is c.requires.0 inside c.word_of-w.ensures c.to.ensures.value) (target_small c.requires.0 inside c.word_of-w.ensures c.to.ensures.value) c.loop-j.invariant.1))
+    let inside : c.loop-j.j < length (net_of c.args.words.now).table = omega (arith, c.loop-j-test.true, c.requires.1) in (
+      omega (arith, c.loop-j-test.true),
+      rw (add-one c.loop-j.j)
+          (targets_more _ (target_is c.requires.0 inside c.word_of-w.ensures c.to.ensures.value)
+          (target_small c.requires.0 inside c.word_of-w.ensures c.to.ensures.value) c.loop-j.invariant.1),
+    )
 
 pub returns : goal.returns
 returns c =

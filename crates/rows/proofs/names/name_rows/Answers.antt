@@ -16,4 +16,5 @@ list_states-n-requires c = (states_few c.requires.0 c.requires.1, ap length c.cl
 
 pub returns : goal.returns
 returns c =
-    let all = rw (transitions_are c.requires.0 c.requires.1 c.transition_count.ensures) at c.mark_targets.ensures in named c.requires.0 all c.clear.ensures (rw (ap (λ a. a.states) c.requires.1) at c.list_states-n.ensures)
+    let all = rw (transitions_are c.requires.0 c.requires.1 c.transition_count.ensures) at c.mark_targets.ensures in named c.requires.0 all c.clear.ensures
+    (rw (ap (λ a. a.states) c.requires.1) at c.list_states-n.ensures)

@@ -21,4 +21,6 @@ sum_to_nine_up-upper-requires c = (rw c.total_at-uppers.ensures c.requires.upper
 pub returns : goal.returns
 unfolding row_in finish_row totals_in
 returns c =
-    let low = c.to_nine_down-lower.ensures ∙ ap to_nine_down c.total_at-lowers.ensures in let high = c.sum_to_nine_up-upper.ensures ∙ ap₂ sum_to_nine_up c.total_at-uppers.ensures c.zero.ensures in λ i. record { state = get_or c.args.table.now (c.args.i + 1) 0; lower = low i; upper = high i }
+    let low = c.to_nine_down-lower.ensures ∙ ap to_nine_down c.total_at-lowers.ensures in let high = c.sum_to_nine_up-upper.ensures
+    ∙ ap₂ sum_to_nine_up c.total_at-uppers.ensures c.zero.ensures in λ i.
+    record { state = get_or c.args.table.now (c.args.i + 1) 0; lower = low i; upper = high i }

@@ -5,8 +5,11 @@ use Rattle.tables.specs.Internal.Told.{moment_of}
 use Rattle.tables.proofs.figures.second_moment.Goals as goal
 
 pub plus_up_telling-sum-requires : goal.plus_up_telling-sum-requires
-plus_up_telling-sum-requires c =
-    (rw c.times_up_telling-a.ensures (sized-≤ (lit≤ tt) (times_up_sized c.requires.0 c.requires.0)), rw c.times_up_telling-b.ensures (sized-≤ (lit≤ tt) (times_up_sized c.requires.1 c.requires.1)))
+plus_up_telling-sum-requires c = (
+  rw c.times_up_telling-a.ensures (sized-≤ (lit≤ tt) (times_up_sized c.requires.0 c.requires.0)),
+  rw c.times_up_telling-b.ensures
+      (sized-≤ (lit≤ tt) (times_up_sized c.requires.1 c.requires.1)),
+)
 
 pub returns : goal.returns
 unfolding moment_of

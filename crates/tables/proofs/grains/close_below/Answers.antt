@@ -16,8 +16,14 @@ pub power-requires : goal.power-requires
 power-requires c = c.if-m-lt1000000.true
 
 pub loop-bit-preserved : goal.loop-bit-preserved
-loop-bit-preserved c =
-    (omega arith, elim c.if-m-lt1000000.branch [ then-m-lt1000000+then-power-c w ↦ below_more w.n-is w.if-m-lt1000000.true w.power.ensures w.if-power-c.true | then-m-lt1000000+else-power-c w ↦ below_same w.n-is c.loop-bit.invariant.1 | else-m-lt1000000 w ↦ below_same w.n-is c.loop-bit.invariant.1 ])
+loop-bit-preserved c = (
+  omega arith,
+  elim c.if-m-lt1000000.branch [
+    | then-m-lt1000000+then-power-c w ↦ below_more w.n-is w.if-m-lt1000000.true w.power.ensures w.if-power-c.true
+    | then-m-lt1000000+else-power-c w ↦ below_same w.n-is c.loop-bit.invariant.1
+    | else-m-lt1000000 w ↦ below_same w.n-is c.loop-bit.invariant.1
+  ],
+)
 
 pub returns : goal.returns
 returns c = c.loop-bit.invariant.1

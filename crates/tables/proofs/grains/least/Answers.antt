@@ -16,8 +16,15 @@ loop-n-preserved c = searched_next c.loop-n.invariant c.if-n-ge1000000.false (rw
 
 pub returns-then-n-ge1000000 : goal.returns-then-n-ge1000000
 returns-then-n-ge1000000 c =
-    record { value = searched_all c.args.cube c.args.g c.ceiling-c.result c.ceiling-c.ensures c.loop-n.n c.loop-n.invariant c.if-n-ge1000000.true; upper_bound = lit≤ tt }
+    record {
+      value = searched_all c.args.cube c.args.g c.ceiling-c.result c.ceiling-c.ensures c.loop-n.n c.loop-n.invariant c.if-n-ge1000000.true;
+      upper_bound = lit≤ tt;
+    }
 
 pub returns-then-c-power : goal.returns-then-c-power
 returns-then-c-power c =
-    record { value = searched_found c.args.cube c.args.g c.ceiling-c.result c.ceiling-c.ensures c.loop-n.n c.loop-n.invariant c.if-n-ge1000000.false (rw c.power.ensures at c.if-c-power.true); upper_bound = c.loop-n.invariant.high }
+    record {
+      value = searched_found c.args.cube c.args.g c.ceiling-c.result c.ceiling-c.ensures c.loop-n.n c.loop-n.invariant c.if-n-ge1000000.false
+          (rw c.power.ensures at c.if-c-power.true);
+      upper_bound = c.loop-n.invariant.high;
+    }

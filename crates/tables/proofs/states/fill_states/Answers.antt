@@ -26,8 +26,13 @@ overflow_add-s c =
 
 pub loop-s-preserved : goal.loop-s-preserved
 loop-s-preserved c =
-    let state_small : c.loop-s.s ≤ 1000 = omega (arith, c.loop-s-test.true, c.requires.indexes.1, c.requires.indexes.0.valid.states_high) in
-    (omega arith, omega arith, c.put_sums.ensures.long ∙ c.loop-s.invariant.2, states_more (net_of c.args.words.now) state_small c.sums_of-x.ensures c.put_sums.ensures c.loop-s.invariant.3)
+    let state_small : c.loop-s.s ≤ 1000 = omega (arith, c.loop-s-test.true, c.requires.indexes.1, c.requires.indexes.0.valid.states_high) in (
+      omega arith,
+      omega arith,
+      c.put_sums.ensures.long ∙ c.loop-s.invariant.2,
+      states_more
+          (net_of c.args.words.now) state_small c.sums_of-x.ensures c.put_sums.ensures c.loop-s.invariant.3,
+    )
 
 pub returns : goal.returns
 returns c = (states_all (net_of c.args.words.now) c.loop-s-test.false c.loop-s.invariant.3, c.loop-s.invariant.2)

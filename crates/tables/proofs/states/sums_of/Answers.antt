@@ -16,8 +16,11 @@ pub exit_count-count-requires : goal.exit_count-count-requires
 exit_count-count-requires c = c.requires.1
 
 pub loop-i-init : goal.loop-i-init
-loop-i-init c =
-    (omega arith, summed_none (net_of c.args.words.now) c.args.s (rw c.zero.ensures at c.exactly.ensures) (rw c.zero-2.ensures at c.exactly-2.ensures) (rw c.zero-3.ensures at c.exactly-3.ensures) (rw c.zero-4.ensures at c.exactly-4.ensures))
+loop-i-init c = (
+  omega arith,
+  summed_none (net_of c.args.words.now) c.args.s (rw c.zero.ensures at c.exactly.ensures) (rw c.zero-2.ensures at c.exactly-2.ensures)
+      (rw c.zero-3.ensures at c.exactly-3.ensures) (rw c.zero-4.ensures at c.exactly-4.ensures),
+)
 
 pub slot-requires : goal.slot-requires
 slot-requires c =
@@ -35,27 +38,34 @@ offset_bounds-words-at c = omega (arith, c.place_of-at.ensures.1)
 pub slice_bounds-with_exit-count : goal.slice_bounds-with_exit-count
 slice_bounds-with_exit-count c =
     let slot_read : c.wide.result ≡ slot c.args.index.now c.args.s c.loop-i.i = c.wide.ensures.0 ∙ c.slot.ensures in
-    let placed : Placed c.args.words.now (get_or (exits (net_of c.args.words.now) c.args.s) c.loop-i.i no_transition) c.place_of-at.result = exit_placed c.requires.0 c.requires.1 c.exit_count-count.ensures.0 c.loop-i-test.true slot_read c.place_of-at.ensures.0 in
+    let placed : Placed c.args.words.now (get_or (exits (net_of c.args.words.now) c.args.s) c.loop-i.i no_transition) c.place_of-at.result =
+    exit_placed c.requires.0 c.requires.1 c.exit_count-count.ensures.0 c.loop-i-test.true slot_read c.place_of-at.ensures.0 in
     omega (arith, placed_inside placed)
 
 pub slice_bounds-with_exit-start : goal.slice_bounds-with_exit-start
 slice_bounds-with_exit-start c =
     let slot_read : c.wide.result ≡ slot c.args.index.now c.args.s c.loop-i.i = c.wide.ensures.0 ∙ c.slot.ensures in
-    let placed : Placed c.args.words.now (get_or (exits (net_of c.args.words.now) c.args.s) c.loop-i.i no_transition) c.place_of-at.result = exit_placed c.requires.0 c.requires.1 c.exit_count-count.ensures.0 c.loop-i-test.true slot_read c.place_of-at.ensures.0 in
+    let placed : Placed c.args.words.now (get_or (exits (net_of c.args.words.now) c.args.s) c.loop-i.i no_transition) c.place_of-at.result =
+    exit_placed c.requires.0 c.requires.1 c.exit_count-count.ensures.0 c.loop-i-test.true slot_read c.place_of-at.ensures.0 in
     omega (arith, placed_inside placed)
 
 pub with_exit-r-requires : goal.with_exit-r-requires
 with_exit-r-requires c =
     let slot_read : c.wide.result ≡ slot c.args.index.now c.args.s c.loop-i.i = c.wide.ensures.0 ∙ c.slot.ensures in
-    let placed : Placed c.args.words.now (get_or (exits (net_of c.args.words.now) c.args.s) c.loop-i.i no_transition) c.place_of-at.result = exit_placed c.requires.0 c.requires.1 c.exit_count-count.ensures.0 c.loop-i-test.true slot_read c.place_of-at.ensures.0 in
+    let placed : Placed c.args.words.now (get_or (exits (net_of c.args.words.now) c.args.s) c.loop-i.i no_transition) c.place_of-at.result =
+    exit_placed c.requires.0 c.requires.1 c.exit_count-count.ensures.0 c.loop-i-test.true slot_read c.place_of-at.ensures.0 in
     let few : c.exit_count-count.result ≤ 16 = count_few c.requires.0 c.requires.1 c.exit_count-count.ensures.0 in
     (placed_first placed, summed_sized (net_of c.args.words.now) c.args.s c.loop-i.invariant.1 (omega (arith, few)))
 
 pub loop-i-preserved : goal.loop-i-preserved
 loop-i-preserved c =
     let slot_read : c.wide.result ≡ slot c.args.index.now c.args.s c.loop-i.i = c.wide.ensures.0 ∙ c.slot.ensures in
-    let placed : Placed c.args.words.now (get_or (exits (net_of c.args.words.now) c.args.s) c.loop-i.i no_transition) c.place_of-at.result = exit_placed c.requires.0 c.requires.1 c.exit_count-count.ensures.0 c.loop-i-test.true slot_read c.place_of-at.ensures.0 in
-    (omega arith, summed_more (net_of c.args.words.now) c.args.s c.loop-i.invariant.1 (exit_more c.requires.0 c.requires.1 c.exit_count-count.ensures.0 c.loop-i-test.true) placed c.with_exit-r.ensures)
+    let placed : Placed c.args.words.now (get_or (exits (net_of c.args.words.now) c.args.s) c.loop-i.i no_transition) c.place_of-at.result =
+    exit_placed c.requires.0 c.requires.1 c.exit_count-count.ensures.0 c.loop-i-test.true slot_read c.place_of-at.ensures.0 in (
+      omega arith,
+      summed_more (net_of c.args.words.now) c.args.s c.loop-i.invariant.1
+          (exit_more c.requires.0 c.requires.1 c.exit_count-count.ensures.0 c.loop-i-test.true) placed c.with_exit-r.ensures,
+    )
 
 pub returns : goal.returns
 returns c =

@@ -9,8 +9,12 @@ pub times_up_telling-twice-requires : goal.times_up_telling-twice-requires
 times_up_telling-twice-requires c = (rw c.of_whole.ensures (sized-≤ (lit≤ tt) (count_sized 2 (lit≤ tt))), sized-≤ (lit≤ tt) c.requires.0)
 
 pub divided_up_telling-quotient-requires : goal.divided_up_telling-quotient-requires
-divided_up_telling-quotient-requires c =
-    (rw (c.times_up_telling-twice.ensures, c.of_whole.ensures) (sized-≤ (lit≤ tt) (times_up_sized (count_sized 2 (lit≤ tt)) c.requires.0)), sized-≤ (lit≤ tt) c.requires.1, c.requires.2)
+divided_up_telling-quotient-requires c = (
+  rw (c.times_up_telling-twice.ensures, c.of_whole.ensures) (sized-≤ (lit≤ tt) (times_up_sized (count_sized 2 (lit≤ tt)) c.requires.0)),
+  sized-≤
+      (lit≤ tt) c.requires.1,
+  c.requires.2,
+)
 
 pub returns : goal.returns
 unfolding class2_quotient_of

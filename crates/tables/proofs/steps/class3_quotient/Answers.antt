@@ -6,8 +6,11 @@ use Rattle.tables.specs.Internal.Steps.{class3_quotient_of}
 use Rattle.tables.proofs.steps.class3_quotient.Goals as goal
 
 pub divided_up_telling-quotient-requires : goal.divided_up_telling-quotient-requires
-divided_up_telling-quotient-requires c =
-    (sized-≤ (lit≤ tt) c.requires.sized.0, rw c.times_down_telling-span.ensures (sized-≤ (lit≤ tt) (times_down_sized c.requires.sized.1 c.requires.sized.2)), rw c.times_down_telling-span.ensures (times_down_above c.args.mean.figure c.args.time c.requires.digits_nonzero.0 c.requires.digits_nonzero.1))
+divided_up_telling-quotient-requires c = (
+  sized-≤ (lit≤ tt) c.requires.sized.0,
+  rw c.times_down_telling-span.ensures (sized-≤ (lit≤ tt) (times_down_sized c.requires.sized.1 c.requires.sized.2)),
+  rw c.times_down_telling-span.ensures (times_down_above c.args.mean.figure c.args.time c.requires.digits_nonzero.0 c.requires.digits_nonzero.1),
+)
 
 pub returns : goal.returns
 unfolding class3_quotient_of

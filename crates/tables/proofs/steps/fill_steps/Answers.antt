@@ -31,8 +31,14 @@ overflow_add-j c =
 pub loop-j-preserved : goal.loop-j-preserved
 loop-j-preserved c =
     let inside : c.loop-j.j < length (net_of c.args.words.now).table = omega (arith, c.loop-j-test.true, c.requires.step_ready.1) in
-    let small : c.loop-j.j < 4000 = omega (arith, inside, c.requires.step_ready.0.indexes.valid.few) in
-    (omega arith, c.put_step.ensures.long ∙ c.loop-j.invariant.1, states_stay (net_of c.args.words.now) small c.put_step.ensures c.requires.step_ready.0.indexes.valid.states_high c.loop-j.invariant.2, steps_more (net_of c.args.words.now) small c.put_step.ensures c.step_at-x.ensures c.loop-j.invariant.3)
+    let small : c.loop-j.j < 4000 = omega (arith, inside, c.requires.step_ready.0.indexes.valid.few) in (
+      omega arith,
+      c.put_step.ensures.long ∙ c.loop-j.invariant.1,
+      states_stay
+          (net_of c.args.words.now) small c.put_step.ensures c.requires.step_ready.0.indexes.valid.states_high c.loop-j.invariant.2,
+      steps_more
+          (net_of c.args.words.now) small c.put_step.ensures c.step_at-x.ensures c.loop-j.invariant.3,
+    )
 
 pub returns : goal.returns
 returns c =

@@ -6,7 +6,8 @@ use Rattle.tables.specs.Internal.Tables.{StatesHold, StepsHold}
 use Rattle.tables.proofs.steps.fill_steps.Given as goal
 
 abbrev pub invariant-loop-j : goal.invariant-loop-j
-invariant-loop-j l = (l.j ≤ l.count) × (length l.table ≡ 16004) × StatesHold (net_of l.words) (described l.words).states l.table × StepsHold (net_of l.words) l.j l.table
+invariant-loop-j l = (l.j ≤ l.count) × (length l.table ≡ 16004) × StatesHold (net_of l.words) (described l.words).states l.table × StepsHold
+    (net_of l.words) l.j l.table
 
 abbrev pub decreases-loop-j : goal.decreases-loop-j
 decreases-loop-j l = l.count - l.j

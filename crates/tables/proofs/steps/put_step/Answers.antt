@@ -8,4 +8,5 @@ packed-requires c = rw c.exactly.ensures c.requires.2.share
 
 pub returns : goal.returns
 returns c =
-    step_put c.args.table.now c.args.j c.packed.result c.packed-2.result c.pack_count.result c.requires.0 c.requires.1 (c.packed.ensures.0 ∙ same_figure c.exactly.ensures) c.packed-2.ensures c.pack_count.ensures
+    step_put c.args.table.now c.args.j c.packed.result c.packed-2.result c.pack_count.result c.requires.0 c.requires.1
+    (c.packed.ensures.0 ∙ same_figure c.exactly.ensures) c.packed-2.ensures c.pack_count.ensures

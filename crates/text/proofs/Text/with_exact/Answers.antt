@@ -10,19 +10,24 @@ with_all-requires c = room_first (ascii "exact ") (mark_digit c.args.lower ∷ m
 
 pub with-requires : goal.with-requires
 with-requires c =
-    let behind_label : Room c.with_all.result (mark_digit c.args.lower ∷ mark_digit c.args.upper ∷ 10 ∷ []) = room_then (ascii "exact ") (mark_digit c.args.lower ∷ mark_digit c.args.upper ∷ 10 ∷ []) c.requires c.with_all.ensures in
+    let behind_label : Room c.with_all.result (mark_digit c.args.lower ∷ mark_digit c.args.upper ∷ 10 ∷ []) = room_then (ascii "exact ")
+    (mark_digit c.args.lower ∷ mark_digit c.args.upper ∷ 10 ∷ []) c.requires c.with_all.ensures in
     rw c.mark_digit.ensures (room_first (mark_digit c.args.lower ∷ []) (mark_digit c.args.upper ∷ 10 ∷ []) behind_label)
 
 pub with-requires-2 : goal.with-requires-2
 with-requires-2 c =
-    let behind_label : Room c.with_all.result (mark_digit c.args.lower ∷ mark_digit c.args.upper ∷ 10 ∷ []) = room_then (ascii "exact ") (mark_digit c.args.lower ∷ mark_digit c.args.upper ∷ 10 ∷ []) c.requires c.with_all.ensures in
-    let behind_first : Room c.with.result (mark_digit c.args.upper ∷ 10 ∷ []) = room_then (mark_digit c.args.lower ∷ []) (mark_digit c.args.upper ∷ 10 ∷ []) behind_label (rw c.mark_digit.ensures at c.with.ensures) in
+    let behind_label : Room c.with_all.result (mark_digit c.args.lower ∷ mark_digit c.args.upper ∷ 10 ∷ []) = room_then (ascii "exact ")
+    (mark_digit c.args.lower ∷ mark_digit c.args.upper ∷ 10 ∷ []) c.requires c.with_all.ensures in
+    let behind_first : Room c.with.result (mark_digit c.args.upper ∷ 10 ∷ []) = room_then (mark_digit c.args.lower ∷ [])
+    (mark_digit c.args.upper ∷ 10 ∷ []) behind_label (rw c.mark_digit.ensures at c.with.ensures) in
     rw c.mark_digit-2.ensures (room_first (mark_digit c.args.upper ∷ []) (10 ∷ []) behind_first)
 
 pub with-requires-3 : goal.with-requires-3
 with-requires-3 c =
-    let behind_label : Room c.with_all.result (mark_digit c.args.lower ∷ mark_digit c.args.upper ∷ 10 ∷ []) = room_then (ascii "exact ") (mark_digit c.args.lower ∷ mark_digit c.args.upper ∷ 10 ∷ []) c.requires c.with_all.ensures in
-    let behind_first : Room c.with.result (mark_digit c.args.upper ∷ 10 ∷ []) = room_then (mark_digit c.args.lower ∷ []) (mark_digit c.args.upper ∷ 10 ∷ []) behind_label (rw c.mark_digit.ensures at c.with.ensures) in
+    let behind_label : Room c.with_all.result (mark_digit c.args.lower ∷ mark_digit c.args.upper ∷ 10 ∷ []) = room_then (ascii "exact ")
+    (mark_digit c.args.lower ∷ mark_digit c.args.upper ∷ 10 ∷ []) c.requires c.with_all.ensures in
+    let behind_first : Room c.with.result (mark_digit c.args.upper ∷ 10 ∷ []) = room_then (mark_digit c.args.lower ∷ [])
+    (mark_digit c.args.upper ∷ 10 ∷ []) behind_label (rw c.mark_digit.ensures at c.with.ensures) in
     room_then (mark_digit c.args.upper ∷ []) (10 ∷ []) behind_first (rw c.mark_digit-2.ensures at c.with-2.ensures)
 
 pub returns : goal.returns

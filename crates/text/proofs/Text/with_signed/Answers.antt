@@ -20,7 +20,8 @@ with_decimal-requires c =
 
 pub returns-then-e-lt0 : goal.returns-then-e-lt0
 returns-then-e-lt0 c =
-    rw (with_minus c.args.e c.requires.0 c.if-e-lt0.true) (added_then c.with.ensures (rw (c.size.ensures, stored_is c.args.e c.requires.0) at c.with_decimal.ensures))
+    rw (with_minus c.args.e c.requires.0 c.if-e-lt0.true) (added_then c.with.ensures
+    (rw (c.size.ensures, stored_is c.args.e c.requires.0) at c.with_decimal.ensures))
 
 pub with_decimal-requires-2 : goal.with_decimal-requires-2
 with_decimal-requires-2 c =

@@ -11,4 +11,5 @@ slice_bounds-words_text-end c =
 
 pub returns : goal.returns
 returns c =
-    let t = rw c.words_of-n.ensures.spelled.words_are at c.words_text.ensures.holds in record { holds = rw (text_enough c.args.bytes.now c.args.budget) t; rules = rules _ _; bytes_value = refl }
+    let t = rw c.words_of-n.ensures.spelled.words_are at c.words_text.ensures.holds in
+    record { holds = rw (text_enough c.args.bytes.now c.args.budget) t; rules = rules _ _; bytes_value = refl }

@@ -16,19 +16,28 @@ RoomFor t x =
 pub with_figures-requires : goal.with_figures-requires
 unfolding answer_text
 with_figures-requires c =
-    let room : RoomFor c.empty.result c.args.r = record { whole = room_all c.empty.ensures (answer_short (granted (report_of c.args.r)) (marks_of c.args.r)) } in
+    let room : RoomFor c.empty.result c.args.r = record {
+      whole = room_all c.empty.ensures
+          (answer_short (granted (report_of c.args.r)) (marks_of c.args.r));
+    } in
     room_one room
 
 pub with_counts-requires : goal.with_counts-requires
 unfolding answer_text
 with_counts-requires c =
-    let room : RoomFor c.empty.result c.args.r = record { whole = room_all c.empty.ensures (answer_short (granted (report_of c.args.r)) (marks_of c.args.r)) } in
+    let room : RoomFor c.empty.result c.args.r = record {
+      whole = room_all c.empty.ensures
+          (answer_short (granted (report_of c.args.r)) (marks_of c.args.r));
+    } in
     room_two room c.with_figures.ensures
 
 pub with_exact-requires : goal.with_exact-requires
 unfolding answer_text
 with_exact-requires c =
-    let room : RoomFor c.empty.result c.args.r = record { whole = room_all c.empty.ensures (answer_short (granted (report_of c.args.r)) (marks_of c.args.r)) } in
+    let room : RoomFor c.empty.result c.args.r = record {
+      whole = room_all c.empty.ensures
+          (answer_short (granted (report_of c.args.r)) (marks_of c.args.r));
+    } in
     room_three room c.with_figures.ensures c.with_counts.ensures
 
 pub returns : goal.returns

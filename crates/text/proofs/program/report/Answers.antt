@@ -13,4 +13,5 @@ slice_bounds-lending_rows-end c =
 
 pub returns : goal.returns
 returns c =
-    let t = rw (c.lending_rows.ensures.answer_is, c.lending_rows.ensures.marks_are, c.words_of-n.ensures.spelled.words_are) at c.answer_text.ensures in record { holds = rw (printed_enough c.args.bytes.now 1000000) t; rules = row_rules _ _; faithful_text = faithful_text; bytes_value = refl }
+    let t = rw (c.lending_rows.ensures.answer_is, c.lending_rows.ensures.marks_are, c.words_of-n.ensures.spelled.words_are) at c.answer_text.ensures in
+    record { holds = rw (printed_enough c.args.bytes.now 1000000) t; rules = row_rules _ _; faithful_text = faithful_text; bytes_value = refl }

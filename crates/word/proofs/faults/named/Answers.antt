@@ -27,25 +27,34 @@ returns-then-named_rest-ne0 c = found (untested _ _) (differs_true c.named_rest.
 
 pub returns-then-outside : goal.returns-then-outside
 returns-then-outside c =
-    let after_rest : LeftAfter c.args.w c.args.place c.args.states c.args.last c.args.count 1 = past (untested _ _) (differs_false c.named_rest.ensures c.if-named_rest-ne0.false) in
+    let after_rest : LeftAfter c.args.w c.args.place c.args.states c.args.last c.args.count 1 = past (untested _ _)
+    (differs_false c.named_rest.ensures c.if-named_rest-ne0.false) in
     found after_rest (outside_is 1 _ c.outside.ensures c.named_state-s.ensures.value c.if-outside.true)
 
 pub returns-then-s-last : goal.returns-then-s-last
 returns-then-s-last c =
-    let after_rest : LeftAfter c.args.w c.args.place c.args.states c.args.last c.args.count 1 = past (untested _ _) (differs_false c.named_rest.ensures c.if-named_rest-ne0.false) in
-    let after_state : LeftAfter c.args.w c.args.place c.args.states c.args.last c.args.count 2 = past after_rest (outside_is 1 _ c.outside.ensures c.named_state-s.ensures.value c.if-outside.false) in
+    let after_rest : LeftAfter c.args.w c.args.place c.args.states c.args.last c.args.count 1 = past (untested _ _)
+    (differs_false c.named_rest.ensures c.if-named_rest-ne0.false) in
+    let after_state : LeftAfter c.args.w c.args.place c.args.states c.args.last c.args.count 2 = past after_rest
+    (outside_is 1 _ c.outside.ensures c.named_state-s.ensures.value c.if-outside.false) in
     found after_state (not_greater c.named_state-s.ensures.value c.if-s-last.true)
 
 pub returns-then-count-ge100 : goal.returns-then-count-ge100
 returns-then-count-ge100 c =
-    let after_rest : LeftAfter c.args.w c.args.place c.args.states c.args.last c.args.count 1 = past (untested _ _) (differs_false c.named_rest.ensures c.if-named_rest-ne0.false) in
-    let after_state : LeftAfter c.args.w c.args.place c.args.states c.args.last c.args.count 2 = past after_rest (outside_is 1 _ c.outside.ensures c.named_state-s.ensures.value c.if-outside.false) in
-    let after_greater : LeftAfter c.args.w c.args.place c.args.states c.args.last c.args.count 3 = past after_state (greater c.named_state-s.ensures.value c.if-s-last.false) in
+    let after_rest : LeftAfter c.args.w c.args.place c.args.states c.args.last c.args.count 1 = past (untested _ _)
+    (differs_false c.named_rest.ensures c.if-named_rest-ne0.false) in
+    let after_state : LeftAfter c.args.w c.args.place c.args.states c.args.last c.args.count 2 = past after_rest
+    (outside_is 1 _ c.outside.ensures c.named_state-s.ensures.value c.if-outside.false) in
+    let after_greater : LeftAfter c.args.w c.args.place c.args.states c.args.last c.args.count 3 = past after_state
+    (greater c.named_state-s.ensures.value c.if-s-last.false) in
     found after_greater (le-leb _ _ c.if-count-ge100.true)
 
 pub returns : goal.returns
 returns c =
-    let after_rest : LeftAfter c.args.w c.args.place c.args.states c.args.last c.args.count 1 = past (untested _ _) (differs_false c.named_rest.ensures c.if-named_rest-ne0.false) in
-    let after_state : LeftAfter c.args.w c.args.place c.args.states c.args.last c.args.count 2 = past after_rest (outside_is 1 _ c.outside.ensures c.named_state-s.ensures.value c.if-outside.false) in
-    let after_greater : LeftAfter c.args.w c.args.place c.args.states c.args.last c.args.count 3 = past after_state (greater c.named_state-s.ensures.value c.if-s-last.false) in
+    let after_rest : LeftAfter c.args.w c.args.place c.args.states c.args.last c.args.count 1 = past (untested _ _)
+    (differs_false c.named_rest.ensures c.if-named_rest-ne0.false) in
+    let after_state : LeftAfter c.args.w c.args.place c.args.states c.args.last c.args.count 2 = past after_rest
+    (outside_is 1 _ c.outside.ensures c.named_state-s.ensures.value c.if-outside.false) in
+    let after_greater : LeftAfter c.args.w c.args.place c.args.states c.args.last c.args.count 3 = past after_state
+    (greater c.named_state-s.ensures.value c.if-s-last.false) in
     fine (past after_greater (lt-leb _ _ c.if-count-ge100.false))

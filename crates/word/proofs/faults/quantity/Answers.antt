@@ -12,15 +12,20 @@ returns-then-kind-k c = found (a_word _ _ _ c.if-part-eq0.false) (differs_true c
 
 pub returns-then-most-scale : goal.returns-then-most-scale
 returns-then-most-scale c =
-    let after_kind : LeftOf (quantity_faults c.args.k c.args.most c.args.least) c.args.at c.args.part.now 1 = past (a_word _ _ _ c.if-part-eq0.false) (differs_false c.kind.ensures c.if-kind-k.false) in
+    let after_kind : LeftOf (quantity_faults c.args.k c.args.most c.args.least) c.args.at c.args.part.now 1 = past (a_word _ _ _ c.if-part-eq0.false)
+    (differs_false c.kind.ensures c.if-kind-k.false) in
     found after_kind (or_first _ _ (lt-ltb _ _ (rw c.scale.ensures at c.if-most-scale.true)))
 
 pub returns-then-outside : goal.returns-then-outside
 returns-then-outside c =
-    let after_kind : LeftOf (quantity_faults c.args.k c.args.most c.args.least) c.args.at c.args.part.now 1 = past (a_word _ _ _ c.if-part-eq0.false) (differs_false c.kind.ensures c.if-kind-k.false) in
-    found after_kind (or_second _ _ (le-ltb _ _ (rw c.scale.ensures at c.if-most-scale.false)) (outside_is _ 999999 c.outside.ensures c.coefficient.ensures c.if-outside.true))
+    let after_kind : LeftOf (quantity_faults c.args.k c.args.most c.args.least) c.args.at c.args.part.now 1 = past (a_word _ _ _ c.if-part-eq0.false)
+    (differs_false c.kind.ensures c.if-kind-k.false) in
+    found after_kind (or_second _ _ (le-ltb _ _ (rw c.scale.ensures at c.if-most-scale.false))
+    (outside_is _ 999999 c.outside.ensures c.coefficient.ensures c.if-outside.true))
 
 pub returns : goal.returns
 returns c =
-    let after_kind : LeftOf (quantity_faults c.args.k c.args.most c.args.least) c.args.at c.args.part.now 1 = past (a_word _ _ _ c.if-part-eq0.false) (differs_false c.kind.ensures c.if-kind-k.false) in
-    fine (past after_kind (or_second _ _ (le-ltb _ _ (rw c.scale.ensures at c.if-most-scale.false)) (outside_is _ 999999 c.outside.ensures c.coefficient.ensures c.if-outside.false)))
+    let after_kind : LeftOf (quantity_faults c.args.k c.args.most c.args.least) c.args.at c.args.part.now 1 = past (a_word _ _ _ c.if-part-eq0.false)
+    (differs_false c.kind.ensures c.if-kind-k.false) in
+    fine (past after_kind (or_second _ _ (le-ltb _ _ (rw c.scale.ensures at c.if-most-scale.false))
+    (outside_is _ 999999 c.outside.ensures c.coefficient.ensures c.if-outside.false)))
