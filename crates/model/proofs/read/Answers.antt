@@ -1,9 +1,15 @@
 -- `model::read` meets its contract: the first of the tests that holds is the definition's. Assumes nothing.
+use Rattle.std.specs.Prelude.{ℕ, ◌≤◌, List, length}
 use mathlib.Core.Path.{refl}
+use Rattle.model.specs.Reading.{most_words}
 use Rattle.model.specs.Reasons.{Called}
 use Rattle.word.proofs.Tests.{below_test, above_test}
 use Rattle.model.proofs.Refusals.{read_too_long, read_bad_budget, read_bad_word}
 use Rattle.model.proofs.read.Goals as goal
+
+-- what the three tests of the caller leave
+called : {words : List ℕ} {budget : ℕ} → length words ≤ most_words → 1 ≤ budget → budget ≤ 1000000 → Called words budget
+called few low high = record { words_few = few; budget_low = low; budget_high = high }
 
 pub returns-then-words-gt-MOST_WORDS : goal.returns-then-words-gt-MOST_WORDS
 returns-then-words-gt-MOST_WORDS c =
@@ -30,58 +36,44 @@ returns-then-budget-gt1000000 c =
     }
 
 pub name_states-requires : goal.name_states-requires
-name_states-requires c =
-    let called : Called c.args.words.now c.args.budget = record {
-      words_few = c.if-words-gt-MOST_WORDS.false;
-      budget_low = c.if-budget-lt1.false;
-      budget_high = c.if-budget-gt1000000.false;
-    } in
-    record { opened = rw c.in-Opened.is at c.«open».ensures; words_len_bound = called.words_few }
+name_states-requires c = record { opened = rw c.in-Opened.is at c.«open».ensures; words_len_bound = c.if-words-gt-MOST_WORDS.false }
 
 pub list-requires : goal.list-requires
-list-requires c =
-    let called : Called c.args.words.now c.args.budget = record {
-      words_few = c.if-words-gt-MOST_WORDS.false;
-      budget_low = c.if-budget-lt1.false;
-      budget_high = c.if-budget-gt1000000.false;
-    } in
-    record { begun = rw c.in-From.is at c.name_states.ensures; words_len_bound = called.words_few }
+list-requires c = record { begun = rw c.in-From.is at c.name_states.ensures; words_len_bound = c.if-words-gt-MOST_WORDS.false }
 
 pub concluded-requires : goal.concluded-requires
 concluded-requires c = rw c.in-Fine.is at c.list.ensures
 
 pub returns-in-Refused : goal.returns-in-Refused
 returns-in-Refused c =
-    let called : Called c.args.words.now c.args.budget = record {
-      words_few = c.if-words-gt-MOST_WORDS.false;
-      budget_low = c.if-budget-lt1.false;
-      budget_high = c.if-budget-gt1000000.false;
-    } in
-    record { words_unchanged = refl; answer = record { reads = read_bad_word _ _ called _ _ (rw c.in-Refused.is at c.«open».ensures) } }
+    record {
+      words_unchanged = refl;
+      answer = record {
+        reads = read_bad_word _ _
+            (called c.if-words-gt-MOST_WORDS.false c.if-budget-lt1.false c.if-budget-gt1000000.false) _ _ (rw c.in-Refused.is at c.«open».ensures);
+      };
+    }
 
 pub returns-in-Refused-name_states : goal.returns-in-Refused-name_states
 returns-in-Refused-name_states c =
-    let called : Called c.args.words.now c.args.budget = record {
-      words_few = c.if-words-gt-MOST_WORDS.false;
-      budget_low = c.if-budget-lt1.false;
-      budget_high = c.if-budget-gt1000000.false;
-    } in
-    record { words_unchanged = refl; answer = record { reads = read_bad_word _ _ called _ _ (rw c.in-Refused-name_states.is at c.name_states.ensures) } }
+    record {
+      words_unchanged = refl;
+      answer = record {
+        reads = read_bad_word _ _
+            (called c.if-words-gt-MOST_WORDS.false c.if-budget-lt1.false c.if-budget-gt1000000.false) _ _ (rw c.in-Refused-name_states.is at c.name_states.ensures);
+      };
+    }
 
 pub returns-in-Refused-list : goal.returns-in-Refused-list
 returns-in-Refused-list c =
-    let called : Called c.args.words.now c.args.budget = record {
-      words_few = c.if-words-gt-MOST_WORDS.false;
-      budget_low = c.if-budget-lt1.false;
-      budget_high = c.if-budget-gt1000000.false;
-    } in
-    let k = called in record { words_unchanged = refl; answer = record { reads = read_bad_word _ _ k _ _ (rw c.in-Refused-list.is at c.list.ensures) } }
+    record {
+      words_unchanged = refl;
+      answer = record {
+        reads = read_bad_word _ _
+            (called c.if-words-gt-MOST_WORDS.false c.if-budget-lt1.false c.if-budget-gt1000000.false) _ _ (rw c.in-Refused-list.is at c.list.ensures);
+      };
+    }
 
 pub returns-in-Fine : goal.returns-in-Fine
 returns-in-Fine c =
-    let called : Called c.args.words.now c.args.budget = record {
-      words_few = c.if-words-gt-MOST_WORDS.false;
-      budget_low = c.if-budget-lt1.false;
-      budget_high = c.if-budget-gt1000000.false;
-    } in
-    let k = called in record { words_unchanged = refl; answer = c.concluded.ensures _ k.words_few k.budget_low k.budget_high }
+    record { words_unchanged = refl; answer = c.concluded.ensures _ c.if-words-gt-MOST_WORDS.false c.if-budget-lt1.false c.if-budget-gt1000000.false }
