@@ -5,6 +5,8 @@ use mathlib.Core.List.{List}
 use native.Mathlib.Decide.{dec_le}
 use native.Mathlib.Nat.{lt_of_not-le}
 use lib.ListN.{length}
+use Rattle.std.specs.Prelude.{Result}
+use Rattle.word.specs.declared.Refusal.{Refusal}
 use Rattle.word.specs.Model.{Model}
 use Rattle.word.specs.Answer as answers
 use Rattle.model.specs.Reading as reading
@@ -17,7 +19,7 @@ use Rattle.accuracy.specs.Rule.{AccuracyRule}
 use Rattle.accuracy.proofs.Theorem.{accuracy_theorem}
 use Rattle.accuracy.proofs.Exactness.{mark_theorem}
 use Rattle.bounds.proofs.Faithful.{faithful}
-use Rattle.bounds.specs.declared.Answer.{Answer}
+use Rattle.bounds.specs.declared.Report.{Report}
 use Rattle.bounds.specs.Answers.{Promised, answer_of, marks_of_answer}
 
 -- what was granted, or something else for a refusal
@@ -52,7 +54,7 @@ module _ (ws : List ℕ) (budget : ℕ) (a : answers.Answer definition.Report) (
       go (no h) = absurd (refused_not_granted (sym (over (lt_of_not-le h)) ∙ e))
 
 -- an answer that is the definition's, with the words unchanged
-pub promise : (ws after : List ℕ) (budget : ℕ) (r : Answer) → after ≡ ws → answer_of r ≡ definition.answer ws budget
+pub promise : (ws after : List ℕ) (budget : ℕ) (r : Result Report Refusal) → after ≡ ws → answer_of r ≡ definition.answer ws budget
     → marks_of_answer r ≡ marks_with ws budget (definition.answer ws budget) → Promised ws after budget r
 promise ws after budget r kept is marks = record {
   answer_is = is;

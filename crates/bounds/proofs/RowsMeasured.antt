@@ -9,6 +9,7 @@ use native.Mathlib.Nat.{le_trans}
 use lib.Dec.{ltb, lit≤}
 use lib.ListN.{length, get_or, replicate}
 use borrow.Author.Tests.{ltb-true, ltb-false}
+use Rattle.std.specs.Prelude.{Ok, Err}
 use Rattle.figure.specs.Rounding.{none}
 use Rattle.figure.specs.Operands.{Operand}
 use Rattle.figure.specs.Operations.{to_nine_down, sum_to_nine_up}
@@ -38,7 +39,6 @@ use Rattle.rows.specs.Internal.Filling.{row_in, Fits, Has}
 use Rattle.rows.specs.Internal.Names.{Named}
 use Rattle.rows.proofs.RowTotals.{empty_rows}
 use Rattle.bounds.specs.declared.Report.{Report}
-use Rattle.bounds.specs.declared.Answer.TheVariants.{Report as reported, Refused}
 use Rattle.bounds.specs.Answers.{report_of, marks_of}
 use Rattle.bounds.specs.Internal.Measured.{Measured}
 use Rattle.bounds.specs.Internal.Walk.{totals_of, kept_of, EndsOver, KeptCounted}
@@ -60,7 +60,7 @@ module _ (ws : List ℕ) (budget lent : ℕ) {table : List ℕ} (cleared : table
   no_rows = ap (λ l. get_or l 0 0) cleared
 
   -- a refusal before the walk
-  none_filled : (f : Refusal) → RowsRefused ws budget lent (number f) (place f) → Measured ws ws budget lent table (Refused f)
+  none_filled : (f : Refusal) → RowsRefused ws budget lent (number f) (place f) → Measured ws ws budget lent table (Err f)
   none_filled f h = record {
     answer_is = sym h.answers;
     marks_are = sym (ap (marks_with ws budget) h.answers ∙ marks_refused ws budget (number f) (place f));
@@ -69,11 +69,11 @@ module _ (ws : List ℕ) (budget lent : ℕ) {table : List ℕ} (cleared : table
     words_unchanged = refl;
   }
 
-  pub measured_refused : (f : Refusal) → reading.read ws budget ≡ answers.refused (number f) (place f) → Measured ws ws budget lent table (Refused f)
+  pub measured_refused : (f : Refusal) → reading.read ws budget ≡ answers.refused (number f) (place f) → Measured ws ws budget lent table (Err f)
   measured_refused f e = none_filled f (rows_read_refused ws budget lent e)
 
   pub measured_few : {m : Model} {n : ℕ} → reading.read ws budget ≡ answers.granted m → n ≡ length (row_states m) → lent < n
-      → Measured ws ws budget lent table (Refused (TooFewRows n))
+      → Measured ws ws budget lent table (Err (TooFewRows n))
   measured_few {m} {n} e is h =
       none_filled (TooFewRows n) (subst (λ (k : ℕ). RowsRefused ws budget lent 14 k) (sym is) (rows_read_few ws budget lent e (omega (arith, is, h))))
 
@@ -137,7 +137,7 @@ module _ (ws : List ℕ) (budget lent : ℕ) {m : Model} (read : reading.read ws
 
   module _ {t : Counts} (after : List ℕ) (ends : EndsOver m.net budget nothing_kept (tree m.net m.limits) t after) where
     -- the walk went over the budget, and the rows were named anew
-    pub measured_over : {table : List ℕ} {n : ℕ} → Named m table n → ltb budget t.steps ≡ true → Measured ws ws budget lent table (Refused OverBudget)
+    pub measured_over : {table : List ℕ} {n : ℕ} → Named m table n → ltb budget t.steps ≡ true → Measured ws ws budget lent table (Err OverBudget)
     unfolding finish_row
     measured_over {table} {n} named over =
         let granted = rows_read_granted ws budget lent read enough in
@@ -159,7 +159,7 @@ module _ (ws : List ℕ) (budget lent : ℕ) {m : Model} (read : reading.read ws
     -- a report
     pub measured_report : {table : List ℕ} {n : ℕ} → Named m table n → NamesKept table after → KeptCounted t after → t.steps ≤ 1000000
         → (q : Report) → report_of q ≡ running.finish (totals_of t after) → marks_of q ≡ running.finish_marks (kept_of t after)
-        → ltb budget t.steps ≡ false → Measured ws ws budget lent after (reported q)
+        → ltb budget t.steps ≡ false → Measured ws ws budget lent after (Ok q)
     measured_report {table} {n} named names counted few q is marks within =
         let granted = rows_read_granted ws budget lent read enough in
         let less : length (tree m.net m.limits) ≤ budget = omega (arith, ltb-false budget (0 + length (tree m.net m.limits)) (sym ends.over_is ∙ within)) in

@@ -4,6 +4,8 @@ use mathlib.Core.Path.{◌≡◌, sym, ap, ◌∙◌}
 use mathlib.Core.List.{List}
 use native.Mathlib.Omega.{arith}
 use lib.ListN.{length, get_or}
+use Rattle.std.specs.Prelude.{Result}
+use Rattle.word.specs.declared.Refusal.{Refusal}
 use Rattle.tree.specs.declared.Row.{Row}
 use Rattle.tree.specs.Report as definition
 use Rattle.tree.specs.Rows.{answer_with_rows, filled_rows, rows_after}
@@ -18,12 +20,12 @@ use Rattle.rows.specs.Internal.Table.{row_count}
 use Rattle.rows.specs.Internal.Filling.{row_in, stored}
 use Rattle.rows.proofs.RowsStored.{stored_laid_over}
 use Rattle.bounds.proofs.Faithful.{faithful}
-use Rattle.bounds.specs.declared.Answer.{Answer}
+use Rattle.bounds.specs.declared.Report.{Report}
 use Rattle.bounds.specs.Answers.{answer_of, marks_of_answer}
 use Rattle.bounds.specs.Rows.{PromisedRows}
 use Rattle.bounds.specs.Internal.Measured.{Measured}
 
-module _ (ws : List ℕ) (budget : ℕ) (given left : List Row) (r : Answer) (is : answer_of r ≡ answer_with_rows ws budget (length given))
+module _ (ws : List ℕ) (budget : ℕ) (given left : List Row) (r : Result Report Refusal) (is : answer_of r ≡ answer_with_rows ws budget (length given))
     (rows : left ≡ rows_after ws budget given) (marks : marks_of_answer r ≡ marks_with ws budget (answer_with_rows ws budget (length given))) where
   promised : (after : List ℕ) → after ≡ ws → PromisedRows ws after budget given left r
   promised after kept = record {
@@ -50,7 +52,7 @@ module _ (ws : List ℕ) (budget : ℕ) (given left : List Row) (r : Answer) (is
       row_rule = rw (is, rows) (row_theorem ws budget given)
 
 -- the table's rows are laid over the caller's
-pub promise_rows : (before after : List ℕ) (budget : ℕ) (given left : List Row) (r : Answer) (table : List ℕ)
+pub promise_rows : (before after : List ℕ) (budget : ℕ) (given left : List Row) (r : Result Report Refusal) (table : List ℕ)
     → Measured before after budget (length given) table r → left ≡ stored (row_in table) (row_count table) given
     → PromisedRows before after budget given left r
 unfolding rows_after

@@ -1,8 +1,9 @@
 -- What the entry point promises. Assumes nothing: these are definitions.
-use Rattle.std.specs.Prelude.{ℕ, ◌<◌, ◌≡◌, List, length}
+use Rattle.std.specs.Prelude.{ℕ, ◌<◌, ◌≡◌, List, length, Result, Ok, Err}
 use Rattle.word.specs.Model.{Model}
 use Rattle.word.specs.Answer as answers
 use Rattle.model.specs.Reading as reading
+use Rattle.word.specs.declared.Refusal.{Refusal}
 use Rattle.word.specs.Refusal.{number, place}
 use Rattle.tree.specs.Tree.{tree}
 use Rattle.tree.specs.Report as definition
@@ -11,28 +12,26 @@ use Rattle.accuracy.specs.Rule.{AccuracyRule}
 use Rattle.accuracy.specs.Exactness.{MarkRule}
 use Rattle.bounds.specs.Faithful.{Faithful}
 use Rattle.bounds.specs.declared.Report.{Report}
-use Rattle.bounds.specs.declared.Answer.{Answer}
-use Rattle.bounds.specs.declared.Answer.TheVariants.{Report as reported, Refused}
 
 abbrev pub report_of : Report → definition.Report
 report_of r = record { lower = r.lower; upper = r.upper; cut = r.cut; deaths = r.deaths; cuts = r.cuts; steps = r.steps }
 
 -- document 01's answer for each case of the code's: the report, or the refusal's number and place
-abbrev pub answer_of : Answer → answers.Answer definition.Report
-answer_of (reported r) = answers.granted (report_of r)
-answer_of (Refused f) = answers.refused (number f) (place f)
+abbrev pub answer_of : Result Report Refusal → answers.Answer definition.Report
+answer_of (Ok r) = answers.granted (report_of r)
+answer_of (Err f) = answers.refused (number f) (place f)
 
 -- the two marks of a report, and of an answer: "(in a refusal both are 0)"
 
 abbrev pub marks_of : Report → Marks
 marks_of r = record { lower = r.lower_exact; upper = r.upper_exact }
 
-abbrev pub marks_of_answer : Answer → Marks
-marks_of_answer (reported r) = marks_of r
-marks_of_answer (Refused f) = no_marks
+abbrev pub marks_of_answer : Result Report Refusal → Marks
+marks_of_answer (Ok r) = marks_of r
+marks_of_answer (Err f) = no_marks
 
 -- What `unreliability` promises, of the words before and after, the budget and its answer.
-pub record Promised (before after : List ℕ) (budget : ℕ) (r : Answer) : Type 0 where
+pub record Promised (before after : List ℕ) (budget : ℕ) (r : Result Report Refusal) : Type 0 where
   -- demands 1 and 2: the answer is the definition's, a report with its figures and counts or a refusal with its number and place
   pub answer_is : answer_of r ≡ definition.answer before budget
   -- it follows, as plain values: a refusal's number and place, and every figure and count in it zero

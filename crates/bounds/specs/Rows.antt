@@ -1,7 +1,8 @@
 -- What the entry point that is lent rows promises: document 02, Item 1. Assumes nothing: these are definitions.
-use Rattle.std.specs.Prelude.{ℕ, ◌≤◌, ◌<◌, ◌≡◌, List, map, length, get_or}
+use Rattle.std.specs.Prelude.{ℕ, ◌≤◌, ◌<◌, ◌≡◌, List, map, length, get_or, Result}
 use Rattle.word.specs.Model.{Model}
 use Rattle.word.specs.Answer as answers
+use Rattle.word.specs.declared.Refusal.{Refusal}
 use Rattle.model.specs.Reading as reading
 use Rattle.tree.specs.declared.Row.{Row}
 use Rattle.tree.specs.Tree.{tree}
@@ -13,10 +14,10 @@ use Rattle.accuracy.specs.Exactness.{MarkRule}
 use Rattle.accuracy.specs.RowRule.{RowRule}
 use Rattle.bounds.specs.Faithful.{Faithful}
 use Rattle.bounds.specs.Answers.{answer_of, marks_of_answer}
-use Rattle.bounds.specs.declared.Answer.{Answer}
+use Rattle.bounds.specs.declared.Report.{Report}
 
 -- What `unreliability_by_state` promises, of the words before and after, the budget, the rows before and after, and its answer.
-pub record PromisedRows (before after : List ℕ) (budget : ℕ) (given left : List Row) (r : Answer) : Type 0 where
+pub record PromisedRows (before after : List ℕ) (budget : ℕ) (given left : List Row) (r : Result Report Refusal) : Type 0 where
   -- the answer is the definition's, a report with its figures and counts or a refusal with its number and place
   pub answer_is : answer_of r ≡ answer_with_rows before budget (length given)
   -- it follows, as plain values: a refusal's number and place, and every figure and count in it zero

@@ -44,12 +44,6 @@ pub struct Report {
     pub upper_exact: bool,
 }
 
-#[derive(Clone, Copy)]
-pub enum Answer {
-    Report(Report),
-    Refused(Refusal),
-}
-
 // The counts of the walk over the tree of an accepted model, or counts whose steps are above the budget; all totals are kept in `rows`.
 fn walked(words: &[u32], index: &Index, a: Accepted, budget: u64, rows: &mut RowTable) -> Counts
     requires indexes { Indexes words.now index.now × (a ≡ summary (described words.now)) × (budget ≤ 1000000) }
@@ -119,33 +113,33 @@ fn reported(c: Counts, rows: &RowTable) -> Report
 
 // The answer to a caller who lends so many rows, and in `rows` those to be filled, whatever it held: none where the model is refused before the walk,
 // and without figures where the walk is.
-fn measured(words: &[u32], budget: u64, lent: usize, rows: &mut RowTable) -> Answer
+fn measured(words: &[u32], budget: u64, lent: usize, rows: &mut RowTable) -> Result<Report, Refusal>
     ensures { Measured words.now words.now budget lent rows.new result }
 {
     clear(rows);
     let mut index: Index = [0; 22018];
     let r = read(words, budget, &mut index);
     match r {
-        Reading::Refused(f) => Answer::Refused(f),
+        Reading::Refused(f) => Err(f),
         Reading::Accepted(a) => {
             let needed = name_rows(words, &index, a, rows);
             if lent < needed {
                 clear(rows);
-                return Answer::Refused(Refusal::TooFewRows(needed));
+                return Err(Refusal::TooFewRows(needed));
             }
             let c = walked(words, &index, a, budget, rows);
             if budget < c.steps {
                 name_rows(words, &index, a, rows);
-                return Answer::Refused(Refusal::OverBudget);
+                return Err(Refusal::OverBudget);
             }
-            Answer::Report(reported(c, rows))
+            Ok(reported(c, rows))
         }
     }
 }
 
 // The report on the model that the words describe, White's lower and upper bounds summed over the paths of its cut tree and rounded outward; or a
 // refusal. It takes every list of words and every budget.
-pub fn unreliability(words: &[u32], budget: u64) -> Answer
+pub fn unreliability(words: &[u32], budget: u64) -> Result<Report, Refusal>
     ensures { Promised words.now words.now budget result }
 {
     let mut rows: RowTable = [0; 5014];
@@ -154,7 +148,11 @@ pub fn unreliability(words: &[u32], budget: u64) -> Answer
 
 // The same, and in the caller's rows the bounds on each way to fail: the first are filled, one for each state without exits that is the target of a
 // transition and none of the generator's. It takes every list of words, every budget and any number of rows.
-pub fn unreliability_by_state(words: &[u32], budget: u64, rows: &mut [Row]) -> Answer
+pub fn unreliability_by_state(
+    words: &[u32],
+    budget: u64,
+    rows: &mut [Row],
+) -> Result<Report, Refusal>
     ensures { PromisedRows words.now words.now budget rows.old rows.new result }
 {
     let mut table: RowTable = [0; 5014];
