@@ -16,6 +16,8 @@ use Rattle.fraction.proofs.Ratio.{◌≼◌, ◌≈◌, ofℕ, ◌⊗◌, ◌⊖
 use Rattle.fraction.proofs.PowersOfTen.{ten_to}
 use Rattle.fraction.proofs.Signed.{signed}
 use Rattle.figure.specs.declared.Figure.{Figure}
+use Rattle.figure.specs.declared.Direction.{Direction}
+use Rattle.figure.specs.declared.Direction.TheVariants.{Down, Up}
 use Rattle.figure.specs.Rounding.{figure, none, value, IsFigure}
 use Rattle.figure.specs.Operands.{Operand, Sized}
 use Rattle.figure.specs.Internal.Steps.{rounded, Ordered, part, directed, just_below}
@@ -28,25 +30,25 @@ use Rattle.figure.proofs.PartsRounded.{Over, rounded_part}
 use Rattle.figure.proofs.Figures.{digits_high, digits_low, zero_is_none, zero_num, room, rounded_own, rounded_zero, rounded_same, over_tens}
 use Rattle.figure.proofs.Orders.{above_strictly, lower_value}
 
-rounded_minus : (upward : Bool) (K : ℕ) (a b : Figure) → rounded upward K (value a -ᶠ value b) ≡ rounded upward K (signed (val a ⊖ val b))
-rounded_minus true K a b = up_minus K a b
-rounded_minus false K a b = down_minus K a b
+rounded_minus : (to : Direction) (K : ℕ) (a b : Figure) → rounded to K (value a -ᶠ value b) ≡ rounded to K (signed (val a ⊖ val b))
+rounded_minus Up K a b = up_minus K a b
+rounded_minus Down K a b = down_minus K a b
 
 -- ---- the exact difference
 
-module _ (upward : Bool) (a b : Figure) where
-  pub no_difference : val a ≼ val b → none ≡ rounded upward 9 (value a -ᶠ value b)
-  no_difference h = sym (rounded_minus upward 9 a b ∙ rounded_zero upward 9 _ (⊖_nothing h))
+module _ (to : Direction) (a b : Figure) where
+  pub no_difference : val a ≼ val b → none ≡ rounded to 9 (value a -ᶠ value b)
+  no_difference h = sym (rounded_minus to 9 a b ∙ rounded_zero to 9 _ (⊖_nothing h))
 
-  pub nothing_taken : b.digits ≡ 0 → IsFigure 9 a → a ≡ rounded upward 9 (value a -ᶠ value b)
-  nothing_taken z i = sym (rounded_minus upward 9 a b ∙ rounded_same upward 8 (⊖_zero (val a) (val b) (zero_num b z))
-      ∙ ap (rounded upward 9) (sym (value_is a)) ∙ rounded_own upward 8 a i)
+  pub nothing_taken : b.digits ≡ 0 → IsFigure 9 a → a ≡ rounded to 9 (value a -ᶠ value b)
+  nothing_taken z i = sym (rounded_minus to 9 a b ∙ rounded_same to 8 (⊖_zero (val a) (val b) (zero_num b z))
+      ∙ ap (rounded to 9) (sym (value_is a)) ∙ rounded_own to 8 a i)
 
-  pub taken_from_nothing : a.digits ≡ 0 → IsFigure 9 a → a ≡ rounded upward 9 (value a -ᶠ value b)
+  pub taken_from_nothing : a.digits ≡ 0 → IsFigure 9 a → a ≡ rounded to 9 (value a -ᶠ value b)
   taken_from_nothing z i = zero_is_none (lit≤ tt) i z ∙ no_difference (record { le = rw (zero_num a z) (omega arith) })
 
   pub higher_taken : Operand 9 a → Operand 9 b → (b.digits ≡ 0 → ⊥) → le_z (stored b.power) (stored a.power) ≡ false
-      → none ≡ rounded upward 9 (value a -ᶠ value b)
+      → none ≡ rounded to 9 (value a -ᶠ value b)
   higher_taken oa ob nb h = let (k, r) = above_strictly a.power b.power
       (sym (read_test a.power b.power (room tt oa.near) (room tt ob.near)) ∙ h) in
       no_difference (lower_value 8 a b oa.is_figure ob.is_figure nb k r)
@@ -78,15 +80,15 @@ module _ {a b : Figure} {g : ℕ} (o : Ordered 9 a b) (g-is : pos g ≡ stored a
           (le_of_lt (digits_high o.first.is_figure)) (pow-le-pow_right (zero-lt-suc 9) h),
     ))
 
-    pub near_nothing : (upward : Bool) → a.digits * t ≤ b.digits → none ≡ rounded upward 9 (value a -ᶠ value b)
-    near_nothing upward h = no_difference upward a b (≼_trans (≈_le first_is) (multiple-≼ b.power (rw t-is at h)))
+    pub near_nothing : (to : Direction) → a.digits * t ≤ b.digits → none ≡ rounded to 9 (value a -ᶠ value b)
+    near_nothing to h = no_difference to a b (≼_trans (≈_le first_is) (multiple-≼ b.power (rw t-is at h)))
 
-    pub near_answer : (upward : Bool) {r : Figure} → r ≡ rounded upward 9 (value (figure (a.digits * t - b.digits) (stored b.power)))
-        → r ≡ rounded upward 9 (value a -ᶠ value b)
-    near_answer upward e =
-        e ∙ ap₂ (λ n p. rounded upward 9 (value (figure n p))) (ap (λ n. a.digits * n - b.digits) t-is) (kept b.power (omega (arith, o.second.near)))
-        ∙ ap (rounded upward 9) (value_is (figure (a.digits * 10 ^ g - b.digits) b.power)) ∙ sym (rounded_same upward 8 difference_is)
-        ∙ sym (rounded_minus upward 9 a b)
+    pub near_answer : (to : Direction) {r : Figure} → r ≡ rounded to 9 (value (figure (a.digits * t - b.digits) (stored b.power)))
+        → r ≡ rounded to 9 (value a -ᶠ value b)
+    near_answer to e =
+        e ∙ ap₂ (λ n p. rounded to 9 (value (figure n p))) (ap (λ n. a.digits * n - b.digits) t-is) (kept b.power (omega (arith, o.second.near)))
+        ∙ ap (rounded to 9) (value_is (figure (a.digits * 10 ^ g - b.digits) b.power)) ∙ sym (rounded_same to 8 difference_is)
+        ∙ sym (rounded_minus to 9 a b)
 
   -- far: it is just below the first
   module _ (far : 9 < g) where
@@ -105,11 +107,11 @@ module _ {a b : Figure} {g : ℕ} (o : Ordered 9 a b) (g-is : pos g ≡ stored a
         split (suc m) l = let e : suc m - 1 ≡ m = omega arith in rw e (omega arith)
 
     -- a first number of 100,000,000: its unit is ten times too large
-    at_least : (upward : Bool) → a.digits ≡ 10 ^ 8 → directed upward 9 (parts 999999999 true) (a.power -ℤ pos 1) ≡ rounded upward 9 (signed (val a ⊖ val b))
-    at_least upward z =
-        ap₂ (directed upward 9) (sym (ap (λ n. part n T) n_is ∙ one_less (10 ^ 9) T b.digits (lit≤ tt) o.second_some unit)) (sym power)
+    at_least : (to : Direction) → a.digits ≡ 10 ^ 8 → directed to 9 (parts 999999999 true) (a.power -ℤ pos 1) ≡ rounded to 9 (signed (val a ⊖ val b))
+    at_least to z =
+        ap₂ (directed to 9) (sym (ap (λ n. part n T) n_is ∙ one_less (10 ^ 9) T b.digits (lit≤ tt) o.second_some unit)) (sym power)
         ∙ rounded_part 8 (pow_pos (g - 1)) (over (g - 1)) (rw n_is (omega (arith, unit)))
-        (rw n_is (omega (arith, unit, o.second_some, pow_pos (g - 1)))) upward
+        (rw n_is (omega (arith, unit, o.second_some, pow_pos (g - 1)))) to
       where
         T : ℕ
         T = 10 ^ (g - 1)
@@ -133,11 +135,11 @@ module _ {a b : Figure} {g : ℕ} (o : Ordered 9 a b) (g-is : pos g ≡ stored a
         power = sym (ap (λ y. y -ℤ pos 1) (sym raised ∙ ap (λ m. b.power +ℤ pos m) (one_more g far) ∙ sym (+ℤ_assoc b.power (pos (g - 1)) (pos 1)))
             ∙ +ℤ-neg_ℤ_cancel (b.power +ℤ pos (g - 1)) (pos 1))
 
-    above_least : (upward : Bool) → (a.digits ≡ 10 ^ 8 → ⊥)
-        → directed upward 9 (parts (a.digits - 1) true) a.power ≡ rounded upward 9 (signed (val a ⊖ val b))
-    above_least upward n =
-        ap₂ (directed upward 9) (sym (one_less a.digits (10 ^ g) b.digits o.first_some o.second_some unit)) (sym raised)
-        ∙ rounded_part 8 (pow_pos g) (over g) (low (10 ^ g) unit) (high (10 ^ g) (pow_pos g)) upward
+    above_least : (to : Direction) → (a.digits ≡ 10 ^ 8 → ⊥)
+        → directed to 9 (parts (a.digits - 1) true) a.power ≡ rounded to 9 (signed (val a ⊖ val b))
+    above_least to n =
+        ap₂ (directed to 9) (sym (one_less a.digits (10 ^ g) b.digits o.first_some o.second_some unit)) (sym raised)
+        ∙ rounded_part 8 (pow_pos g) (over g) (low (10 ^ g) unit) (high (10 ^ g) (pow_pos g)) to
       where
         unit : b.digits < 10 ^ g
         unit = below_unit g (le_of_lt far)
@@ -151,22 +153,22 @@ module _ {a b : Figure} {g : ℕ} (o : Ordered 9 a b) (g-is : pos g ≡ stored a
         high : (T : ℕ) → 0 < T → a.digits * T - b.digits < 10 * 10 ^ 8 * T
         high T h = omega (arith, mul-le-mul_right T (digits_high o.first.is_figure))
 
-    pub far_answer : (upward : Bool) {r : Figure} → r ≡ just_below upward a → r ≡ rounded upward 9 (value a -ᶠ value b)
+    pub far_answer : (to : Direction) {r : Figure} → r ≡ just_below to a → r ≡ rounded to 9 (value a -ᶠ value b)
     unfolding just_below
-    far_answer upward e = e ∙ go (eqb a.digits (10 ^ 8)) (eqb-true a.digits (10 ^ 8)) (eqb-false a.digits (10 ^ 8)) ∙ sym (rounded_minus upward 9 a b)
+    far_answer to e = e ∙ go (eqb a.digits (10 ^ 8)) (eqb-true a.digits (10 ^ 8)) (eqb-false a.digits (10 ^ 8)) ∙ sym (rounded_minus to 9 a b)
       where
         go : (t : Bool) → (t ≡ true → a.digits ≡ 10 ^ 8) → (t ≡ false → a.digits ≡ 10 ^ 8 → ⊥)
             → elim t as (λ _. Figure) [
-              | true ↦ directed upward 9 (parts 999999999 true) (a.power -ℤ pos 1)
-              | false ↦ directed upward 9 (parts (a.digits - 1) true) a.power
+              | true ↦ directed to 9 (parts 999999999 true) (a.power -ℤ pos 1)
+              | false ↦ directed to 9 (parts (a.digits - 1) true) a.power
             ]
-            ≡ rounded upward 9 (signed (val a ⊖ val b))
-        go true p q = at_least upward (p refl)
-        go false p q = above_least upward (q refl)
+            ≡ rounded to 9 (signed (val a ⊖ val b))
+        go true p q = at_least to (p refl)
+        go false p q = above_least to (q refl)
 
 -- ---- the code just below a figure
 
-module _ (upward : Bool) {a : Figure} (s : Sized 9 200000 a) where
+module _ (to : Direction) {a : Figure} (s : Sized 9 200000 a) where
   one_lower : {u : ℤ} → u ≡ stored a.power -ℤ pos 1 → stored u ≡ a.power -ℤ pos 1
   one_lower e = ap stored (read_difference a.power (pos 1) (room tt s.near) (lit≤ tt) e)
       ∙ kept (a.power -ℤ pos 1) (omega (arith, mag_difference a.power (pos 1), s.near))
@@ -174,12 +176,12 @@ module _ (upward : Bool) {a : Figure} (s : Sized 9 200000 a) where
   pub lower_near : {u : ℤ} → u ≡ stored a.power -ℤ pos 1 → mag (stored u) ≤ 1000000
   lower_near e = rw (one_lower e) (omega (arith, mag_difference a.power (pos 1), s.near))
 
-  pub below_least : {u : ℤ} {r : Figure} → a.digits ≡ 10 ^ 8 → u ≡ stored a.power -ℤ pos 1 → r ≡ directed upward 9 (parts 999999999 true) (stored u)
-      → r ≡ just_below upward a
+  pub below_least : {u : ℤ} {r : Figure} → a.digits ≡ 10 ^ 8 → u ≡ stored a.power -ℤ pos 1 → r ≡ directed to 9 (parts 999999999 true) (stored u)
+      → r ≡ just_below to a
   unfolding just_below
-  below_least z e f = f ∙ ap (directed upward 9 (parts 999999999 true)) (one_lower e) ∙ sym (rw (eq-eqb a.digits (10 ^ 8) z, just_below))
+  below_least z e f = f ∙ ap (directed to 9 (parts 999999999 true)) (one_lower e) ∙ sym (rw (eq-eqb a.digits (10 ^ 8) z, just_below))
 
-  pub below_more : {r : Figure} → (a.digits ≡ 10 ^ 8 → ⊥) → r ≡ directed upward 9 (parts (a.digits - 1) true) (stored a.power) → r ≡ just_below upward a
+  pub below_more : {r : Figure} → (a.digits ≡ 10 ^ 8 → ⊥) → r ≡ directed to 9 (parts (a.digits - 1) true) (stored a.power) → r ≡ just_below to a
   unfolding just_below
-  below_more n f = f ∙ ap (directed upward 9 (parts (a.digits - 1) true)) (kept a.power (omega (arith, s.near)))
+  below_more n f = f ∙ ap (directed to 9 (parts (a.digits - 1) true)) (kept a.power (omega (arith, s.near)))
       ∙ sym (rw (ne_eqb a.digits (10 ^ 8) n, just_below))

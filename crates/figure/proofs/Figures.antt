@@ -1,6 +1,5 @@
 -- What the code's proofs ask of one figure: its digits, its value, its own rounding. Assumes nothing.
 use mathlib.Core.Path.{◌≡◌, refl, sym, ◌∙◌, ap, ap₂}
-use mathlib.Core.Bool.{Bool, true, false}
 use Prim.Native.Nat.{ℕ, zero, suc, ◌-◌, ◌*◌, ◌^◌, ◌≤◌, ◌<◌}
 use native.Mathlib.Nat.{le_trans, lt_irrefl}
 use native.Mathlib.Omega.{arith}
@@ -11,6 +10,8 @@ use Rattle.fraction.proofs.Ratio.{Ratio, ◌≈◌, ofℕ, ◌⊗◌, ≈_trans,
 use Rattle.fraction.proofs.PowersOfTen.{ten_to}
 use Rattle.fraction.proofs.Signed.{signed, signed-≈}
 use Rattle.figure.specs.declared.Figure.{Figure}
+use Rattle.figure.specs.declared.Direction.{Direction}
+use Rattle.figure.specs.declared.Direction.TheVariants.{Down as downward, Up as upward}
 use Rattle.figure.specs.Rounding.{figure, none, value, IsFigure, is_zero, is_whole}
 use Rattle.figure.specs.Operands.{Operand, Sized}
 use Rattle.figure.specs.Operations.{times_ten}
@@ -53,18 +54,18 @@ sized_more o = record { is_figure = o.is_figure; near = le_trans o.near (lit≤ 
 -- ---- roundings, over the direction
 
 -- a figure is its own rounding
-pub rounded_own : (upward : Bool) (w : ℕ) (f : Figure) → IsFigure (suc w) f → rounded upward (suc w) (value f) ≡ f
-rounded_own true w f i = up_of_figure w f i
-rounded_own false w f i = down_of_figure w f i
+pub rounded_own : (to : Direction) (w : ℕ) (f : Figure) → IsFigure (suc w) f → rounded to (suc w) (value f) ≡ f
+rounded_own upward w f i = up_of_figure w f i
+rounded_own downward w f i = down_of_figure w f i
 
-pub rounded_zero : (upward : Bool) (K : ℕ) (x : Ratio) → x.num ≡ 0 → rounded upward K (signed x) ≡ none
-rounded_zero true K x z = Up.up_zero K x z
-rounded_zero false K x z = Down.down_zero K x z
+pub rounded_zero : (to : Direction) (K : ℕ) (x : Ratio) → x.num ≡ 0 → rounded to K (signed x) ≡ none
+rounded_zero upward K x z = Up.up_zero K x z
+rounded_zero downward K x z = Down.down_zero K x z
 
 -- equal fractions have one rounding
-pub rounded_same : (upward : Bool) (w : ℕ) {x y : Ratio} → x ≈ y → rounded upward (suc w) (signed x) ≡ rounded upward (suc w) (signed y)
-rounded_same true w h = up_respects w _ _ (signed-≈ h)
-rounded_same false w h = down_respects w _ _ (signed-≈ h)
+pub rounded_same : (to : Direction) (w : ℕ) {x y : Ratio} → x ≈ y → rounded to (suc w) (signed x) ≡ rounded to (suc w) (signed y)
+rounded_same upward w h = up_respects w _ _ (signed-≈ h)
+rounded_same downward w h = down_respects w _ _ (signed-≈ h)
 
 -- ---- n times 10^e, with the last k digits behind the point
 pub over_tens : {x : Ratio} (n k : ℕ) (e : ℤ) → x ≈ ofℕ n ⊗ ten_to e → Over x n (10 ^ k) (e +ℤ pos k)

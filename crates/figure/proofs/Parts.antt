@@ -14,6 +14,8 @@ use mir.Syntax.{w64}
 use mir.Val.{Fits}
 use borrow.Author.Tests.{eq-eqb, ne_eqb, lt-ltb, le-ltb}
 use Rattle.figure.specs.declared.Figure.{Figure}
+use Rattle.figure.specs.declared.Direction.{Direction}
+use Rattle.figure.specs.declared.Direction.TheVariants.{Down, Up}
 use Rattle.figure.specs.declared.division.Part.{Part}
 use Rattle.figure.specs.Rounding.{figure}
 use Rattle.figure.specs.Internal.Steps.{Width, part, shorter, carry, directed, trimmed}
@@ -111,30 +113,33 @@ module _ (e : ℤ) (h : mag e ≤ 1000000) where
   pub carried_short : (K d : ℕ) {t : ℕ} → t ≡ 10 ^ K → (d ≡ t → ⊥) → figure d (stored e) ≡ carry K d e
   carried_short K d p n = ap (figure d) (kept e (omega arith)) ∙ sym (carry_short K d e (λ q. n (q ∙ sym p)))
 
-  module _ (upward : Bool) (K : ℕ) (p : Part) where
-    pub directed_more : {r : Figure} → upward ≡ true → p.rest ≡ true → r ≡ carry K (p.whole + 1) (stored e) → r ≡ directed upward K p e
+  module _ (to : Direction) (K : ℕ) (p : Part) where
+    pub directed_more : {r : Figure} → to ≡ Up → p.rest ≡ true → r ≡ carry K (p.whole + 1) (stored e) → r ≡ directed to K p e
     unfolding directed
     directed_more u s q = q ∙ ap (carry K (p.whole + 1)) (kept e (omega arith)) ∙ sym (rw (u, directed) (rw (s, directed)))
 
-    pub directed_exact : p.rest ≡ false → figure p.whole (stored e) ≡ directed upward K p e
-    directed_exact s = ap (figure p.whole) (kept e (omega arith)) ∙ sym (go upward)
+    pub directed_exact : p.rest ≡ false → figure p.whole (stored e) ≡ directed to K p e
+    directed_exact s = ap (figure p.whole) (kept e (omega arith)) ∙ sym (go to)
       where
-        go : (u : Bool) → directed u K p e ≡ figure p.whole e
-        go true = unfold directed in rw (s, directed)
-        go false = unfold directed in refl
+        go : (u : Direction) → directed u K p e ≡ figure p.whole e
+        go Up = unfold directed in rw (s, directed)
+        go Down = unfold directed in refl
 
-    pub directed_down : upward ≡ false → figure p.whole (stored e) ≡ directed upward K p e
-    unfolding directed
-    directed_down u = ap (figure p.whole) (kept e (omega arith)) ∙ sym (rw (u, directed))
+    pub directed_down : (to ≡ Up → ⊥) → figure p.whole (stored e) ≡ directed to K p e
+    directed_down n = ap (figure p.whole) (kept e (omega arith)) ∙ sym (go to n)
+      where
+        go : (d : Direction) → (d ≡ Up → ⊥) → directed d K p e ≡ figure p.whole e
+        go Up n = absurd (n refl)
+        go Down n = unfold directed in refl
 
-    pub trimmed_short : {r : Figure} → p.whole < 10 ^ K → r ≡ directed upward K p (stored e) → r ≡ trimmed upward K p e
+    pub trimmed_short : {r : Figure} → p.whole < 10 ^ K → r ≡ directed to K p (stored e) → r ≡ trimmed to K p e
     unfolding trimmed
-    trimmed_short l q = q ∙ ap (directed upward K p) (kept e (omega arith)) ∙ sym (rw (lt-ltb p.whole (10 ^ K) l, trimmed))
+    trimmed_short l q = q ∙ ap (directed to K p) (kept e (omega arith)) ∙ sym (rw (lt-ltb p.whole (10 ^ K) l, trimmed))
 
-    pub trimmed_long : {r : Figure} {s : ℤ} {q : Part} → 10 ^ K ≤ p.whole → q ≡ shorter p 10 → s ≡ stored e +ℤ pos 1 → r ≡ directed upward K q (stored s)
-        → r ≡ trimmed upward K p e
+    pub trimmed_long : {r : Figure} {s : ℤ} {q : Part} → 10 ^ K ≤ p.whole → q ≡ shorter p 10 → s ≡ stored e +ℤ pos 1 → r ≡ directed to K q (stored s)
+        → r ≡ trimmed to K p e
     unfolding trimmed
-    trimmed_long l g f q = q ∙ ap₂ (directed upward K) g (next_kept f) ∙ sym (rw (le-ltb p.whole (10 ^ K) l, trimmed))
+    trimmed_long l g f q = q ∙ ap₂ (directed to K) g (next_kept f) ∙ sym (rw (le-ltb p.whole (10 ^ K) l, trimmed))
 
 pub shorter_small : (p : Part) (m d : ℕ) → 0 < d → p.whole < m * d → (shorter p d).whole < m
 unfolding shorter

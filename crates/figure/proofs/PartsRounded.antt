@@ -14,6 +14,8 @@ use Rattle.fraction.proofs.Certificate.{◌*'◌, same_value}
 use Rattle.fraction.proofs.PowersOfTen.{ten_to, ten-+, ten_nat}
 use Rattle.fraction.proofs.Signed.{signed}
 use Rattle.figure.specs.declared.Figure.{Figure}
+use Rattle.figure.specs.declared.Direction.{Direction}
+use Rattle.figure.specs.declared.Direction.TheVariants.{Down as downward, Up as upward}
 use Rattle.figure.specs.Rounding.{figure, up, down}
 use Rattle.figure.specs.Internal.Steps.{rounded, part, shorter, carry, directed, trimmed}
 use Rattle.figure.proofs.Scale.{multiple-≤, multiple-≼}
@@ -96,10 +98,10 @@ module _ (w : ℕ) {x : Ratio} {n t : ℕ} {e : ℤ} (ht : 0 < t) (o : Over x n 
       le_of_mul : {c : ℕ} → n / t * t ≤ c * t → n / t ≤ c
       le_of_mul h = native.Mathlib.Nat.le_of_mul-le-mul_right h ht
 
-  pub rounded_part : (upward : Bool) → directed upward (suc w) (part n t) e ≡ rounded upward (suc w) (signed x)
+  pub rounded_part : (to : Direction) → directed to (suc w) (part n t) e ≡ rounded to (suc w) (signed x)
   unfolding directed part
-  rounded_part false = going_down
-  rounded_part true = go (eqb (n / t * t) n) (eqb-true (n / t * t) n) (eqb-false (n / t * t) n)
+  rounded_part downward = going_down
+  rounded_part upward = go (eqb (n / t * t) n) (eqb-true (n / t * t) n) (eqb-false (n / t * t) n)
     where
       go : (b : Bool) → (b ≡ true → n / t * t ≡ n) → (b ≡ false → n / t * t ≡ n → ⊥)
           → elim (not b) as (λ _. Figure) [ true ↦ carry (suc w) (n / t + 1) e | false ↦ figure (n / t) e ] ≡ up (suc w) (signed x)
@@ -107,10 +109,10 @@ module _ (w : ℕ) {x : Ratio} {n t : ℕ} {e : ℤ} (ht : 0 < t) (o : Over x n 
       go false p q = up_more (q refl)
 
 -- where there may be one digit more than the width has, one more division finds the rounding
-pub rounded_trimmed : (w : ℕ) {x : Ratio} {n t : ℕ} {e : ℤ} → 0 < t → Over x n t e → 10 ^ w * t ≤ n → n < 10 * (10 * 10 ^ w * t) → (upward : Bool)
-    → trimmed upward (suc w) (part n t) e ≡ rounded upward (suc w) (signed x)
+pub rounded_trimmed : (w : ℕ) {x : Ratio} {n t : ℕ} {e : ℤ} → 0 < t → Over x n t e → 10 ^ w * t ≤ n → n < 10 * (10 * 10 ^ w * t) → (to : Direction)
+    → trimmed to (suc w) (part n t) e ≡ rounded to (suc w) (signed x)
 unfolding trimmed part
-rounded_trimmed w {x} {n} {t} {e} ht o low high upward = go (ltb whole (10 ^ suc w)) (ltb-true whole (10 ^ suc w)) (ltb-false whole (10 ^ suc w))
+rounded_trimmed w {x} {n} {t} {e} ht o low high to = go (ltb whole (10 ^ suc w)) (ltb-true whole (10 ^ suc w)) (ltb-false whole (10 ^ suc w))
   where
     whole : ℕ
     whole = n / t
@@ -122,8 +124,8 @@ rounded_trimmed w {x} {n} {t} {e} ht o low high upward = go (ltb whole (10 ^ suc
     long h = let k : 10 * 10 ^ w * t ≤ n = (le-div_iff_mul-le ht).0 (rw (pow-succ' 10 w) at h) in omega (arith, k)
 
     go : (b : Bool) → (b ≡ true → whole < 10 ^ suc w) → (b ≡ false → 10 ^ suc w ≤ whole)
-        → elim b as (λ _. Figure) [ true ↦ directed upward (suc w) (part n t) e | false ↦ directed upward (suc w) (shorter (part n t) 10) (e +ℤ pos 1) ]
-        ≡ rounded upward (suc w) (signed x)
-    go true p q = rounded_part w ht o low (fits (p refl)) upward
+        → elim b as (λ _. Figure) [ true ↦ directed to (suc w) (part n t) e | false ↦ directed to (suc w) (shorter (part n t) 10) (e +ℤ pos 1) ]
+        ≡ rounded to (suc w) (signed x)
+    go true p q = rounded_part w ht o low (fits (p refl)) to
     go false p q = rw (shorter_part n t 10 ht (zero-lt-suc 9))
-        (rounded_part w (mul-pos ht (zero-lt-suc 9)) (over_lift 1 o) (long (q refl)) (omega (arith, high)) upward)
+        (rounded_part w (mul-pos ht (zero-lt-suc 9)) (over_lift 1 o) (long (q refl)) (omega (arith, high)) to)

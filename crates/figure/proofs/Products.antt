@@ -17,6 +17,8 @@ use Rattle.fraction.proofs.Ratio.{◌≈◌, ofℕ, ◌⊗◌, ≈_sym, ≈_tran
 use Rattle.fraction.proofs.Certificate.{◌*'◌, same_value}
 use Rattle.fraction.proofs.PowersOfTen.{ten_to, ten-+}
 use Rattle.figure.specs.declared.Figure.{Figure}
+use Rattle.figure.specs.declared.Direction.{Direction}
+use Rattle.figure.specs.declared.Direction.TheVariants.{Down}
 use Rattle.figure.specs.declared.division.Part.{Part}
 use Rattle.figure.specs.declared.product.Scaled.{Scaled}
 use Rattle.figure.specs.Rounding.{none, value, IsFigure, digit_count}
@@ -120,14 +122,14 @@ module _ {a b : Figure} (fa : IsFigure 9 a) (fb : IsFigure 9 b) where
     product_nine = scaling_nine (a.digits * b.digits) product_large product_small
 
     -- the part by the one division, rounded, is the product rounded
-    product_rounded : (upward : Bool)
-        → directed upward 9 (scaling (a.digits * b.digits)).part (a.power +ℤ b.power +ℤ (scaling (a.digits * b.digits)).dropped)
-        ≡ rounded upward 9 (value a *ᶠ value b)
-    product_rounded upward = let nine = product_nine in
-        ap₂ (directed upward 9) nine.part_is (ap (λ (z : ℤ). a.power +ℤ b.power +ℤ z) nine.dropped_is)
+    product_rounded : (to : Direction)
+        → directed to 9 (scaling (a.digits * b.digits)).part (a.power +ℤ b.power +ℤ (scaling (a.digits * b.digits)).dropped)
+        ≡ rounded to 9 (value a *ᶠ value b)
+    product_rounded to = let nine = product_nine in
+        ap₂ (directed to 9) nine.part_is (ap (λ (z : ℤ). a.power +ℤ b.power +ℤ z) nine.dropped_is)
         ∙ rounded_part 8 (pow_pos nine.k) (over_tens (a.digits * b.digits) nine.k (a.power +ℤ b.power) (product_is a b)) nine.low
-        nine.high upward
-        ∙ ap (rounded upward 9) (sym (value_times a b))
+        nine.high to
+        ∙ ap (rounded to 9) (sym (value_times a b))
 
 -- ---- as the code has it
 
@@ -135,8 +137,8 @@ module _ {a b : Figure} (oa : Operand 9 a) (ob : Operand 9 b) where
   pub product_fits : Fits w64 (a.digits * b.digits)
   product_fits = omega (arith, product_small oa.is_figure ob.is_figure)
 
-  pub product_zero : (upward : Bool) → a.digits * b.digits ≡ 0 → none ≡ rounded upward 9 (value a *ᶠ value b)
-  product_zero upward z = sym (ap (rounded upward 9) (value_times a b) ∙ rounded_zero upward 9 _ nothing)
+  pub product_zero : (to : Direction) → a.digits * b.digits ≡ 0 → none ≡ rounded to 9 (value a *ᶠ value b)
+  product_zero to z = sym (ap (rounded to 9) (value_times a b) ∙ rounded_zero to 9 _ nothing)
     where
       nothing : (val a ⊗ val b).num ≡ 0
       nothing = unfold ◌⊗◌ ofℕ in omega (arith, ap (λ n. n * ((ten_to a.power).num * (ten_to b.power).num)) z)
@@ -172,11 +174,11 @@ module _ {a b : Figure} (oa : Operand 9 a) (ob : Operand 9 b) where
       pub product_power : mag (stored u) ≤ 1000000
       product_power = rw (kept u (omega (arith, total_near))) (omega (arith, total_near))
 
-      pub product_answer : (upward : Bool) {r : Figure} → r ≡ directed upward 9 z.part (stored u) → r ≡ rounded upward 9 (value a *ᶠ value b)
-      product_answer upward e =
-          e ∙ ap₂ (directed upward 9) (ap (λ (z : Scaled). z.part) z-is)
+      pub product_answer : (to : Direction) {r : Figure} → r ≡ directed to 9 z.part (stored u) → r ≡ rounded to 9 (value a *ᶠ value b)
+      product_answer to e =
+          e ∙ ap₂ (directed to 9) (ap (λ (z : Scaled). z.part) z-is)
           (kept u (omega (arith, total_near)) ∙ total_is ∙ ap₂ ◌+ℤ◌ sum_is (ap (λ (z : Scaled). z.dropped) z-is))
-          ∙ product_rounded oa.is_figure ob.is_figure n upward
+          ∙ product_rounded oa.is_figure ob.is_figure n to
 
 -- ---- the laws of document 02, Item 5
 
@@ -215,4 +217,4 @@ seventeen_or_eighteen a b f = product_count f
 
 pub one_division : OneDivision
 unfolding times_down divided_once scaling part directed
-one_division a b f = sym (product_rounded f.first f.second (some_product f) false)
+one_division a b f = sym (product_rounded f.first f.second (some_product f) Down)

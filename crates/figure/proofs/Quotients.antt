@@ -1,7 +1,6 @@
 -- The code's quotient of two figures is the rounding that is meant. Assumes nothing.
 use mathlib.Core.Path.{◌≡◌, sym, ◌∙◌, ap, ap₂}
 use mathlib.Core.List.{[], ◌∷◌}
-use mathlib.Core.Bool.{Bool}
 use Prim.Native.Nat.{ℕ, ◌*◌, ◌^◌, ◌≤◌, ◌<◌}
 use native.Mathlib.Nat.{lt_irrefl}
 use native.Mathlib.Omega.{arith, patom, plit}
@@ -16,6 +15,7 @@ use Rattle.fraction.proofs.Certificate.{◌*'◌, same_value}
 use Rattle.fraction.proofs.PowersOfTen.{ten_to, ten-+, ten_nat}
 use Rattle.fraction.proofs.Inverse.{inv, inv_is}
 use Rattle.figure.specs.declared.Figure.{Figure}
+use Rattle.figure.specs.declared.Direction.{Direction}
 use Rattle.figure.specs.declared.division.Part.{Part}
 use Rattle.figure.specs.Rounding.{value}
 use Rattle.figure.specs.Operands.{Operand}
@@ -64,8 +64,8 @@ quotient_over a b k h = record {
 -- ---- the code's
 
 module _ {a b : Figure} (oa : Operand 9 a) (ob : Operand 9 b) (hb : 0 < b.digits) where
-  pub quotient_zero : (upward : Bool) → a.digits ≡ 0 → a ≡ rounded upward 9 (value a /ᶠ value b)
-  quotient_zero upward z = zero_is_none (lit≤ tt) oa.is_figure z ∙ sym (ap (rounded upward 9) (value_divided a b) ∙ rounded_zero upward 9 _ nothing)
+  pub quotient_zero : (to : Direction) → a.digits ≡ 0 → a ≡ rounded to 9 (value a /ᶠ value b)
+  quotient_zero to z = zero_is_none (lit≤ tt) oa.is_figure z ∙ sym (ap (rounded to 9) (value_divided a b) ∙ rounded_zero to 9 _ nothing)
     where
       nothing : (val a ⊗ inv (val b)).num ≡ 0
       nothing = unfold ◌⊗◌ ofℕ in omega (arith, ap (λ n. n * ((ten_to a.power).num * (inv (val b)).num)) z)
@@ -107,9 +107,9 @@ module _ {a b : Figure} (oa : Operand 9 a) (ob : Operand 9 b) (hb : 0 < b.digits
         pub quotient_power : mag (stored u) ≤ 1000000
         quotient_power = rw (kept u (omega (arith, power_near))) (omega (arith, power_near))
 
-        pub quotient_answer : (upward : Bool) {q : Part} {r : Figure} → q ≡ part (a.digits * t) b.digits → r ≡ directed upward 9 q (stored u)
-            → r ≡ rounded upward 9 (value a /ᶠ value b)
-        quotient_answer upward f e =
-            e ∙ ap₂ (directed upward 9) (f ∙ ap (λ n. part (a.digits * n) b.digits) t-is)
+        pub quotient_answer : (to : Direction) {q : Part} {r : Figure} → q ≡ part (a.digits * t) b.digits → r ≡ directed to 9 q (stored u)
+            → r ≡ rounded to 9 (value a /ᶠ value b)
+        quotient_answer to f e =
+            e ∙ ap₂ (directed to 9) (f ∙ ap (λ n. part (a.digits * n) b.digits) t-is)
             (kept u (omega (arith, power_near)) ∙ power_is ∙ ap₂ ◌-ℤ◌ difference_is z-is)
-            ∙ rounded_part 8 hb (quotient_over a b k hb) pad.low pad.high upward ∙ ap (rounded upward 9) (sym (value_divided a b))
+            ∙ rounded_part 8 hb (quotient_over a b k hb) pad.low pad.high to ∙ ap (rounded to 9) (sym (value_divided a b))

@@ -2,7 +2,7 @@
 -- last digit and the mark that more was left, settles it. Assumes nothing.
 use mathlib.Core.Path.{◌≡◌, refl, sym, ◌∙◌, ap, ap₂}
 use mathlib.Core.List.{[], ◌∷◌}
-use mathlib.Core.Bool.{Bool, true, false}
+use mathlib.Core.Bool.{true, false}
 use Prim.Native.Nat.{ℕ, zero, suc, ◌+◌, ◌*◌, ◌/◌, ◌%◌, ◌^◌, ◌≤◌, ◌<◌}
 use native.Mathlib.Nat.{lt_of_lt_of_le, mul-le-mul_right, mul-le-mul_left, zero-lt-suc, lt_irrefl, div-le_self, mod-lt, div-add-mod', pow-le-pow_right, pow-succ', pos_of_ne-zero}
 use native.Mathlib.Omega.{arith, P, patom}
@@ -18,6 +18,7 @@ use Rattle.fraction.proofs.Certificate.{◌+'◌, ◌*'◌, same_value}
 use Rattle.fraction.proofs.PowersOfTen.{ten_to, ten-+, ten_nat}
 use Rattle.fraction.proofs.Signed.{signed}
 use Rattle.figure.specs.declared.Figure.{Figure}
+use Rattle.figure.specs.declared.Direction.{Direction}
 use Rattle.figure.specs.declared.division.Part.{Part}
 use Rattle.figure.specs.Rounding.{value, IsFigure}
 use Rattle.figure.specs.Operands.{Sized}
@@ -118,12 +119,12 @@ pub sum_over : {K : ℕ} {a b : Figure} → Ordered K a b → Over (val a ⊕ va
 sum_over {K} {a} {b} o = record { is = sum_is a b (10 ^ gap_of a b) (gap_ten o.order) }
 
 -- one law over the direction and the width
-sum_rounded : (upward : Bool) (w : ℕ) {a b : Figure} → Ordered (suc w) a b
-    → trimmed upward (suc w) (aligned_sum a b) a.power ≡ rounded upward (suc w) (value a +ᶠ value b)
+sum_rounded : (to : Direction) (w : ℕ) {a b : Figure} → Ordered (suc w) a b
+    → trimmed to (suc w) (aligned_sum a b) a.power ≡ rounded to (suc w) (value a +ᶠ value b)
 unfolding aligned_sum
-sum_rounded upward w {a} {b} o =
-    rounded_trimmed w (pow_pos (gap_of a b)) (sum_over o) (low (10 ^ gap_of a b)) (high (10 ^ gap_of a b) (pow_pos (gap_of a b))) upward
-    ∙ ap (rounded upward (suc w)) (sym (value_plus a b))
+sum_rounded to w {a} {b} o =
+    rounded_trimmed w (pow_pos (gap_of a b)) (sum_over o) (low (10 ^ gap_of a b)) (high (10 ^ gap_of a b) (pow_pos (gap_of a b))) to
+    ∙ ap (rounded to (suc w)) (sym (value_plus a b))
   where
     least : 10 ^ w ≤ a.digits
     least = digits_low o.first.is_figure (λ z. lt_irrefl 0 (rw z at o.first_some))
@@ -147,30 +148,30 @@ by_width P f {K} k = go K k.some
     go zero h = absurd (lt_irrefl 0 h)
     go (suc w) h = f w
 
-module _ (upward : Bool) {K : ℕ} (k : Width K) where
-  pub sum_answer : {a b : Figure} {p : Part} {r : Figure} → Ordered K a b → p ≡ aligned_sum a b → r ≡ trimmed upward K p (stored a.power)
-      → r ≡ rounded upward K (value a +ᶠ value b)
-  sum_answer {a} {b} o e q = q ∙ ap₂ (trimmed upward K) e (kept a.power (omega (arith, o.first.near))) ∙ at_width k o
+module _ (to : Direction) {K : ℕ} (k : Width K) where
+  pub sum_answer : {a b : Figure} {p : Part} {r : Figure} → Ordered K a b → p ≡ aligned_sum a b → r ≡ trimmed to K p (stored a.power)
+      → r ≡ rounded to K (value a +ᶠ value b)
+  sum_answer {a} {b} o e q = q ∙ ap₂ (trimmed to K) e (kept a.power (omega (arith, o.first.near))) ∙ at_width k o
     where
-      at_width : {n : ℕ} → Width n → Ordered n a b → trimmed upward n (aligned_sum a b) a.power ≡ rounded upward n (value a +ᶠ value b)
-      at_width = by_width (λ n. Ordered n a b → trimmed upward n (aligned_sum a b) a.power ≡ rounded upward n (value a +ᶠ value b))
-          (λ w. sum_rounded upward w)
+      at_width : {n : ℕ} → Width n → Ordered n a b → trimmed to n (aligned_sum a b) a.power ≡ rounded to n (value a +ᶠ value b)
+      at_width = by_width (λ n. Ordered n a b → trimmed to n (aligned_sum a b) a.power ≡ rounded to n (value a +ᶠ value b))
+          (λ w. sum_rounded to w)
 
-  pub sum_swap : (a b : Figure) → rounded upward K (value b +ᶠ value a) ≡ rounded upward K (value a +ᶠ value b)
+  pub sum_swap : (a b : Figure) → rounded to K (value b +ᶠ value a) ≡ rounded to K (value a +ᶠ value b)
   sum_swap a b =
-      ap (rounded upward K) (value_plus b a)
-      ∙ by_width (λ n. rounded upward n (signed (val b ⊕ val a)) ≡ rounded upward n (signed (val a ⊕ val b)))
-      (λ w. rounded_same upward w (⊕_comm (val b) (val a))) k
-      ∙ ap (rounded upward K) (sym (value_plus a b))
+      ap (rounded to K) (value_plus b a)
+      ∙ by_width (λ n. rounded to n (signed (val b ⊕ val a)) ≡ rounded to n (signed (val a ⊕ val b)))
+      (λ w. rounded_same to w (⊕_comm (val b) (val a))) k
+      ∙ ap (rounded to K) (sym (value_plus a b))
 
-  pub nothing_added : (a b : Figure) → a.digits ≡ 0 → rounded upward K (value b) ≡ rounded upward K (value a +ᶠ value b)
+  pub nothing_added : (a b : Figure) → a.digits ≡ 0 → rounded to K (value b) ≡ rounded to K (value a +ᶠ value b)
   nothing_added a b z =
-      ap (rounded upward K) (value_is b)
-      ∙ by_width (λ n. rounded upward n (signed (val b)) ≡ rounded upward n (signed (val a ⊕ val b))) (λ w. rounded_same upward w (≈_sym nothing)) k
-      ∙ ap (rounded upward K) (sym (value_plus a b))
+      ap (rounded to K) (value_is b)
+      ∙ by_width (λ n. rounded to n (signed (val b)) ≡ rounded to n (signed (val a ⊕ val b))) (λ w. rounded_same to w (≈_sym nothing)) k
+      ∙ ap (rounded to K) (sym (value_plus a b))
     where
       nothing : val a ⊕ val b ≈ val b
       nothing = rw z (≈_trans (⊕_cong (⊗_zero _) (≈_refl _)) (⊕_zero _))
 
-  pub sum_zero : (a b : Figure) → a.digits ≡ 0 → IsFigure K b → b ≡ rounded upward K (value a +ᶠ value b)
-  sum_zero a b z i = sym (by_width (λ n. IsFigure n b → rounded upward n (value b) ≡ b) (λ w. rounded_own upward w b) k i) ∙ nothing_added a b z
+  pub sum_zero : (a b : Figure) → a.digits ≡ 0 → IsFigure K b → b ≡ rounded to K (value a +ᶠ value b)
+  sum_zero a b z i = sym (by_width (λ n. IsFigure n b → rounded to n (value b) ≡ b) (λ w. rounded_own to w b) k i) ∙ nothing_added a b z

@@ -1,6 +1,5 @@
 -- The code's totals of eighteen digits, and its way from them to nine, are the roundings that are meant. Assumes nothing.
 use mathlib.Core.Path.{◌≡◌, refl, sym, ◌∙◌, ap, ap₂}
-use mathlib.Core.Bool.{Bool}
 use Prim.Native.Nat.{ℕ, zero, suc, ◌+◌, ◌*◌, ◌^◌, ◌≤◌, ◌<◌}
 use native.Mathlib.Nat.{le_trans, mul-le-mul_right, mul-pos, lt_irrefl}
 use native.Mathlib.Omega.{arith}
@@ -12,6 +11,7 @@ use mir.Val.{Fits}
 use Rattle.fraction.specs.Fraction.{◌+ᶠ◌}
 use Rattle.fraction.proofs.Ratio.{◌≈◌, ≈_refl, ⊕_cong}
 use Rattle.figure.specs.declared.Figure.{Figure}
+use Rattle.figure.specs.declared.Direction.{Direction}
 use Rattle.figure.specs.declared.division.Part.{Part}
 use Rattle.figure.specs.Rounding.{figure, none, value, IsFigure, is_zero, is_whole}
 use Rattle.figure.specs.Operands.{Operand, Sized}
@@ -81,11 +81,11 @@ module _ {a : Figure} (o : Operand 9 a) where
       go (is_zero z p) = rw (widening_none a z, zero_is_none (lit≤ tt) o.is_figure z) (≈_refl _)
       go (is_whole l h) = rw (widening_whole a (not_zero l)) (ten_shift a.digits 9 a.power)
 
-  pub total_answer : (upward : Bool) (t : Figure) {w r : Figure} → w ≡ widening a → r ≡ rounded upward 18 (value t +ᶠ value w)
-      → r ≡ rounded upward 18 (value t +ᶠ value a)
-  total_answer upward t e f =
-      f ∙ ap (λ g. rounded upward 18 (value t +ᶠ value g)) e ∙ ap (rounded upward 18) (value_plus t (widening a))
-      ∙ rounded_same upward 17 (⊕_cong (≈_refl (val t)) widening_value) ∙ ap (rounded upward 18) (sym (value_plus t a))
+  pub total_answer : (to : Direction) (t : Figure) {w r : Figure} → w ≡ widening a → r ≡ rounded to 18 (value t +ᶠ value w)
+      → r ≡ rounded to 18 (value t +ᶠ value a)
+  total_answer to t e f =
+      f ∙ ap (λ g. rounded to 18 (value t +ᶠ value g)) e ∙ ap (rounded to 18) (value_plus t (widening a))
+      ∙ rounded_same to 17 (⊕_cong (≈_refl (val t)) widening_value) ∙ ap (rounded to 18) (sym (value_plus t a))
 
 -- ---- a power raised by nine
 
@@ -102,8 +102,8 @@ module _ (p : ℤ) {u : ℤ} (h : mag p ≤ 200000) (e : u ≡ stored p +ℤ pos
 -- ---- a total, to nine digits
 
 module _ {t : Figure} (o : Operand 18 t) where
-  pub to_nine_zero : (upward : Bool) → t.digits ≡ 0 → t ≡ rounded upward 9 (value t)
-  to_nine_zero upward z = rw (zero_is_none (lit≤ tt) o.is_figure z) (sym (rounded_own upward 8 none (is_zero refl refl)))
+  pub to_nine_zero : (to : Direction) → t.digits ≡ 0 → t ≡ rounded to 9 (value t)
+  to_nine_zero to z = rw (zero_is_none (lit≤ tt) o.is_figure z) (sym (rounded_own to 8 none (is_zero refl refl)))
 
   pub to_nine_below : {q : Part} → q ≡ part t.digits (10 ^ 9) → q.whole < 10 ^ 9
   to_nine_below e = part_below t.digits (10 ^ 9) (10 ^ 9) e (lit≤ tt) (digits_high o.is_figure)
@@ -111,12 +111,12 @@ module _ {t : Figure} (o : Operand 18 t) where
   pub to_nine_power : {u : ℤ} → u ≡ stored t.power +ℤ pos 9 → mag (stored u) ≤ 1000000
   to_nine_power e = le_trans (nine_higher t.power (le_trans o.near (lit≤ tt)) e) (lit≤ tt)
 
-  pub to_nine_answer : (upward : Bool) {u : ℤ} {q : Part} {r : Figure} → (t.digits ≡ 0 → ⊥) → u ≡ stored t.power +ℤ pos 9 → q ≡ part t.digits (10 ^ 9)
-      → r ≡ directed upward 9 q (stored u) → r ≡ rounded upward 9 (value t)
-  to_nine_answer upward n e f g =
-      g ∙ ap₂ (directed upward 9) f (raised_is t.power (le_trans o.near (lit≤ tt)) e)
-      ∙ rounded_part 8 (lit≤ tt) (over_tens t.digits 9 t.power (≈_refl _)) (digits_low o.is_figure n) (digits_high o.is_figure) upward
-      ∙ ap (rounded upward 9) (sym (value_is t))
+  pub to_nine_answer : (to : Direction) {u : ℤ} {q : Part} {r : Figure} → (t.digits ≡ 0 → ⊥) → u ≡ stored t.power +ℤ pos 9 → q ≡ part t.digits (10 ^ 9)
+      → r ≡ directed to 9 q (stored u) → r ≡ rounded to 9 (value t)
+  to_nine_answer to n e f g =
+      g ∙ ap₂ (directed to 9) f (raised_is t.power (le_trans o.near (lit≤ tt)) e)
+      ∙ rounded_part 8 (lit≤ tt) (over_tens t.digits 9 t.power (≈_refl _)) (digits_low o.is_figure n) (digits_high o.is_figure) to
+      ∙ ap (rounded to 9) (sym (value_is t))
 
 -- ---- the sum of two totals, to nine digits
 
@@ -124,13 +124,13 @@ module _ {a b : Figure} {p q : Part} (o : Ordered 18 a b) (p-is : p ≡ aligned_
   pub sum_nine_below : q.whole < 10 * 10 ^ 9
   sum_nine_below = rw q-is (shorter_small p (10 * 10 ^ 9) (10 ^ 9) (lit≤ tt) (aligned_small o p-is))
 
-  pub sum_nine_answer : (upward : Bool) {u : ℤ} {r : Figure} → u ≡ stored a.power +ℤ pos 9 → r ≡ trimmed upward 9 q (stored u)
-      → r ≡ rounded upward 9 (value a +ᶠ value b)
-  sum_nine_answer upward e h =
-      h ∙ ap₂ (trimmed upward 9) (q-is ∙ ap (λ s. shorter s (10 ^ 9)) p-is ∙ shorten) (raised_is a.power o.first.near e)
+  pub sum_nine_answer : (to : Direction) {u : ℤ} {r : Figure} → u ≡ stored a.power +ℤ pos 9 → r ≡ trimmed to 9 q (stored u)
+      → r ≡ rounded to 9 (value a +ᶠ value b)
+  sum_nine_answer to e h =
+      h ∙ ap₂ (trimmed to 9) (q-is ∙ ap (λ s. shorter s (10 ^ 9)) p-is ∙ shorten) (raised_is a.power o.first.near e)
       ∙ rounded_trimmed 8 (mul-pos (pow_pos (gap_of a b)) (pow_pos 9)) (over_lift 9 (sum_over o)) (low (10 ^ gap_of a b))
-      (high (10 ^ gap_of a b) (pow_pos (gap_of a b))) upward
-      ∙ ap (rounded upward 9) (sym (value_plus a b))
+      (high (10 ^ gap_of a b) (pow_pos (gap_of a b))) to
+      ∙ ap (rounded to 9) (sym (value_plus a b))
     where
       shorten : shorter (aligned_sum a b) (10 ^ 9) ≡ part (a.digits * 10 ^ gap_of a b + b.digits) (10 ^ gap_of a b * 10 ^ 9)
       shorten = unfold aligned_sum in shorter_part (a.digits * 10 ^ gap_of a b + b.digits) (10 ^ gap_of a b) (10 ^ 9) (pow_pos (gap_of a b)) (pow_pos 9)

@@ -1,6 +1,5 @@
 -- The code's rounding of a whole number times a power of ten to nine digits is the one that is meant. Assumes nothing.
 use mathlib.Core.Path.{◌≡◌, sym, ◌∙◌, ap, ap₂}
-use mathlib.Core.Bool.{Bool}
 use Prim.Native.Nat.{ℕ, ◌+◌, ◌-◌, ◌*◌, ◌/◌, ◌^◌, ◌≤◌, ◌<◌}
 use native.Mathlib.Nat.{mul-le-mul_right, mul-lt-mul_of_pos_right, div-lt_iff_lt-mul}
 use native.Mathlib.Omega.{arith}
@@ -14,6 +13,7 @@ use Rattle.fraction.specs.Fraction.{whole, ratio}
 use Rattle.fraction.proofs.Ratio.{≈_refl, ≈_sym}
 use Rattle.fraction.proofs.Signed.{signed_whole, signed_ratio}
 use Rattle.figure.specs.declared.Figure.{Figure}
+use Rattle.figure.specs.declared.Direction.{Direction}
 use Rattle.figure.specs.declared.division.Part.{Part}
 use Rattle.figure.specs.Rounding.{figure, none, value, is_whole}
 use Rattle.figure.specs.Internal.Steps.{rounded, part, directed, Count}
@@ -36,8 +36,8 @@ more_digits {n} {r} d = record {
 
 -- ---- the code's, of n times 10^e
 
-pub nothing_rounded : (upward : Bool) (n : ℕ) (e : ℤ) → n ≡ 0 → none ≡ rounded upward 9 (value (figure n e))
-nothing_rounded upward n e z = sym (ap (rounded upward 9) (value_is (figure n e)) ∙ rounded_zero upward 9 _ (zero_num (figure n e) z))
+pub nothing_rounded : (to : Direction) (n : ℕ) (e : ℤ) → n ≡ 0 → none ≡ rounded to 9 (value (figure n e))
+nothing_rounded to n e z = sym (ap (rounded to 9) (value_is (figure n e)) ∙ rounded_zero to 9 _ (zero_num (figure n e) z))
 
 -- at most nine digits: zeros are put behind
 module _ {n r t : ℕ} (d : Count 20 n r) (h : r ≤ 9) (t-is : t ≡ 10 ^ (9 - r)) where
@@ -60,9 +60,9 @@ module _ {n r t : ℕ} (d : Count 20 n r) (h : r ≤ 9) (t-is : t ≡ 10 ^ (9 - 
     pub padding_powers : (mag (stored e) ≤ 1000000000) × (mag (stored z) ≤ 1000000000)
     padding_powers = (kept_near e (omega arith), kept_near z (omega (arith, zeros_near)))
 
-    pub padding_answer : (upward : Bool) {u : ℤ} → u ≡ stored e -ℤ stored z → figure (n * t) (stored u) ≡ rounded upward 9 (value (figure n e))
-    padding_answer upward {u} f = ap₂ figure (ap (λ m. n * m) t-is) power ∙ sym (ap (rounded upward 9) (value_is (figure n e))
-        ∙ sym (rounded_same upward 8 (ten_shift n (9 - r) e)) ∙ ap (rounded upward 9) (sym (value_is padded)) ∙ rounded_own upward 8 padded (is_whole low high))
+    pub padding_answer : (to : Direction) {u : ℤ} → u ≡ stored e -ℤ stored z → figure (n * t) (stored u) ≡ rounded to 9 (value (figure n e))
+    padding_answer to {u} f = ap₂ figure (ap (λ m. n * m) t-is) power ∙ sym (ap (rounded to 9) (value_is (figure n e))
+        ∙ sym (rounded_same to 8 (ten_shift n (9 - r) e)) ∙ ap (rounded to 9) (sym (value_is padded)) ∙ rounded_own to 8 padded (is_whole low high))
       where
         padded : Figure
         padded = figure (n * 10 ^ (9 - r)) (e -ℤ pos (9 - r))
@@ -105,16 +105,16 @@ module _ {n r t : ℕ} (d : Count 20 n r) (h : 9 < r) (t-is : t ≡ 10 ^ (r - 9)
       pub whole_power : mag (stored u) ≤ 1000000
       whole_power = rw (kept u (omega (arith, sum_near))) (omega (arith, sum_near))
 
-      pub whole_answer : (upward : Bool) {q : Part} {f : Figure} → q ≡ part n t → f ≡ directed upward 9 q (stored u) → f ≡ rounded upward 9 (value (figure n e))
-      whole_answer upward g i =
-          i ∙ ap₂ (directed upward 9) (g ∙ ap (part n) t-is) (kept u (omega (arith, sum_near)) ∙ sum_is ∙ ap (λ y. e +ℤ y) z-is)
-          ∙ rounded_part 8 (pow_pos (r - 9)) (over_tens n (r - 9) e (≈_refl _)) long_low long_high upward ∙ ap (rounded upward 9) (sym (value_is (figure n e)))
+      pub whole_answer : (to : Direction) {q : Part} {f : Figure} → q ≡ part n t → f ≡ directed to 9 q (stored u) → f ≡ rounded to 9 (value (figure n e))
+      whole_answer to g i =
+          i ∙ ap₂ (directed to 9) (g ∙ ap (part n) t-is) (kept u (omega (arith, sum_near)) ∙ sum_is ∙ ap (λ y. e +ℤ y) z-is)
+          ∙ rounded_part 8 (pow_pos (r - 9)) (over_tens n (r - 9) e (≈_refl _)) long_low long_high to ∙ ap (rounded to 9) (sym (value_is (figure n e)))
 
 -- ---- whole numbers and quantities
 
-pub of_whole_answer : (upward : Bool) (n : ℕ) {r : Figure} → r ≡ rounded upward 9 (value (figure n (pos 0))) → r ≡ rounded upward 9 (whole n)
-of_whole_answer upward n e =
-    e ∙ ap (rounded upward 9) (value_is (figure n (pos 0))) ∙ rounded_same upward 8 (ten_units n) ∙ ap (rounded upward 9) (signed_whole n)
+pub of_whole_answer : (to : Direction) (n : ℕ) {r : Figure} → r ≡ rounded to 9 (value (figure n (pos 0))) → r ≡ rounded to 9 (whole n)
+of_whole_answer to n e =
+    e ∙ ap (rounded to 9) (value_is (figure n (pos 0))) ∙ rounded_same to 8 (ten_units n) ∙ ap (rounded to 9) (signed_whole n)
 
 module _ (p : ℕ) {z : ℤ} (h : p ≤ 255) (z-is : z ≡ neg_ℤ (pos p)) where
   power_kept : stored z ≡ neg_ℤ (pos p)
@@ -123,8 +123,8 @@ module _ (p : ℕ) {z : ℤ} (h : p ≤ 255) (z-is : z ≡ neg_ℤ (pos p)) wher
   pub quantity_power : mag (stored z) ≤ 200000
   quantity_power = rw power_kept (omega (arith, mag_negative (pos p)))
 
-  pub quantity_answer : (upward : Bool) (c : ℕ) {m : ℕ} {r : Figure} → m ≡ c → r ≡ rounded upward 9 (value (figure m (stored z)))
-      → r ≡ rounded upward 9 (ratio (pos c) (10 ^ p))
-  quantity_answer upward c f g = g ∙ ap₂ (λ n y. rounded upward 9 (value (figure n y))) f power_kept
-      ∙ ap (rounded upward 9) (value_is (figure c (neg_ℤ (pos p)))) ∙ rounded_same upward 8 (≈_sym (over_ten c p))
-      ∙ ap (rounded upward 9) (signed_ratio c (10 ^ p))
+  pub quantity_answer : (to : Direction) (c : ℕ) {m : ℕ} {r : Figure} → m ≡ c → r ≡ rounded to 9 (value (figure m (stored z)))
+      → r ≡ rounded to 9 (ratio (pos c) (10 ^ p))
+  quantity_answer to c f g = g ∙ ap₂ (λ n y. rounded to 9 (value (figure n y))) f power_kept
+      ∙ ap (rounded to 9) (value_is (figure c (neg_ℤ (pos p)))) ∙ rounded_same to 8 (≈_sym (over_ten c p))
+      ∙ ap (rounded to 9) (signed_ratio c (10 ^ p))

@@ -1,4 +1,5 @@
 pub mod Steps
+pub mod Directions
 pub mod Telling
 pub mod Gathered
 pub mod Ceiling

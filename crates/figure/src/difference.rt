@@ -6,12 +6,12 @@ ghost use Rattle.figure.specs.Operands.{Sized, Operand};
 ghost use Rattle.figure.specs.Internal.Steps.{rounded, Ordered, just_below};
 
 use crate::division::Part;
-use crate::{Figure, division, powers, whole};
+use crate::{Direction, Figure, division, powers, whole};
 
 // The first less the second; zero where that is not positive.
-pub(crate) fn minus(upward: bool, a: Figure, b: Figure) -> Figure
+pub(crate) fn minus(to: Direction, a: Figure, b: Figure) -> Figure
     requires { Operand 9 a × Operand 9 b }
-    ensures { result ≡ rounded upward 9 (value a -ᶠ value b) }
+    ensures { result ≡ rounded to 9 (value a -ᶠ value b) }
 {
     if b.digits == 0 {
         return a;
@@ -20,7 +20,7 @@ pub(crate) fn minus(upward: bool, a: Figure, b: Figure) -> Figure
         return a;
     }
     if b.power <= a.power {
-        return less(upward, a, b);
+        return less(to, a, b);
     }
     Figure {
         digits: 0,
@@ -29,14 +29,14 @@ pub(crate) fn minus(upward: bool, a: Figure, b: Figure) -> Figure
 }
 
 // The first less the second, whose power is not above the first's.
-fn less(upward: bool, a: Figure, b: Figure) -> Figure
+fn less(to: Direction, a: Figure, b: Figure) -> Figure
     requires { Ordered 9 a b }
-    ensures { result ≡ rounded upward 9 (value a -ᶠ value b) }
+    ensures { result ≡ rounded to 9 (value a -ᶠ value b) }
 {
     let gap = powers::gap(a.power, b.power);
     // ten powers apart or more, the second is below a tenth of the first's last digit
     if 9 < gap {
-        return lessened(upward, a);
+        return lessened(to, a);
     }
     let n = a.digits * powers::ten_to(gap);
     if n <= b.digits {
@@ -45,24 +45,24 @@ fn less(upward: bool, a: Figure, b: Figure) -> Figure
             power: 0,
         };
     }
-    whole::fitted(upward, n - b.digits, b.power)
+    whole::fitted(to, n - b.digits, b.power)
 }
 
 // A figure less something above zero and below a tenth of its last digit.
-fn lessened(upward: bool, a: Figure) -> Figure
+fn lessened(to: Direction, a: Figure) -> Figure
     requires { Sized 9 200000 a × (0 < a.digits) }
-    ensures { result ≡ just_below upward a }
+    ensures { result ≡ just_below to a }
 {
     if a.digits == 100_000_000 {
         let part = Part {
             whole: 999_999_999,
             rest: true,
         };
-        return division::directed(upward, 9, part, powers::difference(a.power, 1));
+        return division::directed(to, 9, part, powers::difference(a.power, 1));
     }
     let part = Part {
         whole: a.digits - 1,
         rest: true,
     };
-    division::directed(upward, 9, part, a.power)
+    division::directed(to, 9, part, a.power)
 }

@@ -3,7 +3,7 @@ ghost use Rattle.std.specs.Prelude.{◌≡◌, ◌*◌, ◌^◌, ◌≤◌, ◌<
 ghost use Rattle.std.specs.Int.Signed.{mag};
 ghost use Rattle.figure.specs.Internal.Steps.{Width, part, shorter, carry, directed, trimmed};
 
-use crate::{Figure, powers};
+use crate::{Direction, Figure, powers};
 
 // A quotient of whole numbers, and whether something was left over.
 #[derive(Clone, Copy)]
@@ -36,15 +36,13 @@ pub(crate) fn shortened(p: Part, d: u64) -> Part
 }
 
 // The digits of p at a power, rounded up or down to the given width.
-pub(crate) fn directed(upward: bool, width: usize, p: Part, power: i32) -> Figure
+pub(crate) fn directed(to: Direction, width: usize, p: Part, power: i32) -> Figure
     requires { Width width × (p.whole < 10 ^ width) × (mag power ≤ 1000000) }
-    ensures { result ≡ directed upward width p power }
+    ensures { result ≡ directed to width p power }
 {
     let whole = p.whole;
-    if upward {
-        if p.rest {
-            return carried(width, whole + 1, power);
-        }
+    if to == Direction::Up && p.rest {
+        return carried(width, whole + 1, power);
     }
     Figure {
         digits: whole,
@@ -53,14 +51,14 @@ pub(crate) fn directed(upward: bool, width: usize, p: Part, power: i32) -> Figur
 }
 
 // A part that may have one digit too many, at a power.
-pub(crate) fn trimmed(upward: bool, width: usize, part: Part, power: i32) -> Figure
+pub(crate) fn trimmed(to: Direction, width: usize, part: Part, power: i32) -> Figure
     requires { Width width × (part.whole < 10 * 10 ^ width) × (mag power ≤ 900000) }
-    ensures { result ≡ trimmed upward width part power }
+    ensures { result ≡ trimmed to width part power }
 {
     if part.whole < powers::ten_to(width) {
-        return directed(upward, width, part, power);
+        return directed(to, width, part, power);
     }
-    directed(upward, width, shortened(part, 10), powers::sum(power, 1))
+    directed(to, width, shortened(part, 10), powers::sum(power, 1))
 }
 
 // Digits at a power, where they may be one too many.

@@ -11,6 +11,7 @@ ghost use Rattle.figure.specs.Losses as losses;
 ghost use Rattle.figure.specs.Losses.{told};
 ghost use Rattle.figure.specs.Tested.{figure_test};
 ghost use Rattle.figure.specs.Internal.Ceiling.{Ceiling};
+ghost use Rattle.figure.specs.Internal.Directions as directions;
 
 mod ceiling;
 mod difference;
@@ -24,10 +25,28 @@ mod total;
 mod whole;
 
 #[repr(C)]
-#[derive(Clone, Copy)]
+#[derive(Clone, Copy, PartialEq, Eq)]
 pub struct Figure {
     pub digits: u64,
     pub power: i32,
+}
+
+// Which way an operation rounds: to the greatest figure not above the exact result, or to the least not below it.
+#[derive(Clone, Copy, PartialEq, Eq)]
+pub enum Direction {
+    Down,
+    Up,
+}
+
+impl Direction {
+    fn opposite(self) -> Direction
+        ensures { result ≡ directions.opposite self }
+    {
+        match self {
+            Direction::Down => Direction::Up,
+            Direction::Up => Direction::Down,
+        }
+    }
 }
 
 // A figure that something was rounded to, and whether nothing was lost.
@@ -64,14 +83,14 @@ impl Figure {
     pub fn of_whole(n: u64) -> Figure
         ensures { result ≡ ops.of_whole n }
     {
-        whole::fitted(false, n, 0)
+        whole::fitted(Direction::Down, n, 0)
     }
 
     pub fn of_whole_telling(n: u64) -> Rounded
         ensures { result ≡ told (ops.of_whole n) (losses.whole_keeps n) }
     {
-        let figure = whole::fitted(false, n, 0);
-        telling::told(figure, whole::fitted(true, n, 0))
+        let figure = whole::fitted(Direction::Down, n, 0);
+        telling::told(figure, whole::fitted(Direction::Up, n, 0))
     }
 
     // The quantity c / 10^p of a word table, exactly.
@@ -79,7 +98,7 @@ impl Figure {
         requires { p ≤ 255 }
         ensures { result ≡ ops.of_quantity c p }
     {
-        whole::fitted(true, whole::wide(c), powers::negative(p))
+        whole::fitted(Direction::Up, whole::wide(c), powers::negative(p))
     }
 
     pub fn of_quantity_telling(c: u32, p: u32) -> Rounded
@@ -88,128 +107,128 @@ impl Figure {
     {
         let n = whole::wide(c);
         let power = powers::negative(p);
-        let figure = whole::fitted(true, n, power);
-        telling::told(figure, whole::fitted(false, n, power))
+        let figure = whole::fitted(Direction::Up, n, power);
+        telling::told(figure, whole::fitted(Direction::Down, n, power))
     }
 
     pub fn times_up(self, other: Figure) -> Figure
         requires { Operand 9 self × Operand 9 other }
         ensures { result ≡ ops.times_up self other }
     {
-        product::times(true, self, other)
+        product::times(Direction::Up, self, other)
     }
 
     pub fn times_up_telling(self, other: Figure) -> Rounded
         requires { Operand 9 self × Operand 9 other }
         ensures { result ≡ told (ops.times_up self other) (losses.times_keeps self other) }
     {
-        let figure = product::times(true, self, other);
-        telling::told(figure, product::times(false, self, other))
+        let figure = product::times(Direction::Up, self, other);
+        telling::told(figure, product::times(Direction::Down, self, other))
     }
 
     pub fn times_down(self, other: Figure) -> Figure
         requires { Operand 9 self × Operand 9 other }
         ensures { result ≡ ops.times_down self other }
     {
-        product::times(false, self, other)
+        product::times(Direction::Down, self, other)
     }
 
     pub fn times_down_telling(self, other: Figure) -> Rounded
         requires { Operand 9 self × Operand 9 other }
         ensures { result ≡ told (ops.times_down self other) (losses.times_keeps self other) }
     {
-        let figure = product::times(false, self, other);
-        telling::told(figure, product::times(true, self, other))
+        let figure = product::times(Direction::Down, self, other);
+        telling::told(figure, product::times(Direction::Up, self, other))
     }
 
     pub fn plus_up(self, other: Figure) -> Figure
         requires { Operand 9 self × Operand 9 other }
         ensures { result ≡ ops.plus_up self other }
     {
-        sum::plus(true, 9, self, other)
+        sum::plus(Direction::Up, 9, self, other)
     }
 
     pub fn plus_up_telling(self, other: Figure) -> Rounded
         requires { Operand 9 self × Operand 9 other }
         ensures { result ≡ told (ops.plus_up self other) (losses.plus_keeps self other) }
     {
-        let figure = sum::plus(true, 9, self, other);
-        telling::told(figure, sum::plus(false, 9, self, other))
+        let figure = sum::plus(Direction::Up, 9, self, other);
+        telling::told(figure, sum::plus(Direction::Down, 9, self, other))
     }
 
     pub fn plus_down(self, other: Figure) -> Figure
         requires { Operand 9 self × Operand 9 other }
         ensures { result ≡ ops.plus_down self other }
     {
-        sum::plus(false, 9, self, other)
+        sum::plus(Direction::Down, 9, self, other)
     }
 
     pub fn plus_down_telling(self, other: Figure) -> Rounded
         requires { Operand 9 self × Operand 9 other }
         ensures { result ≡ told (ops.plus_down self other) (losses.plus_keeps self other) }
     {
-        let figure = sum::plus(false, 9, self, other);
-        telling::told(figure, sum::plus(true, 9, self, other))
+        let figure = sum::plus(Direction::Down, 9, self, other);
+        telling::told(figure, sum::plus(Direction::Up, 9, self, other))
     }
 
     pub fn minus_up(self, other: Figure) -> Figure
         requires { Operand 9 self × Operand 9 other }
         ensures { result ≡ ops.minus_up self other }
     {
-        difference::minus(true, self, other)
+        difference::minus(Direction::Up, self, other)
     }
 
     pub fn minus_up_telling(self, other: Figure) -> Rounded
         requires { Operand 9 self × Operand 9 other }
         ensures { result ≡ told (ops.minus_up self other) (losses.minus_keeps self other) }
     {
-        let figure = difference::minus(true, self, other);
-        telling::told(figure, difference::minus(false, self, other))
+        let figure = difference::minus(Direction::Up, self, other);
+        telling::told(figure, difference::minus(Direction::Down, self, other))
     }
 
     pub fn minus_down(self, other: Figure) -> Figure
         requires { Operand 9 self × Operand 9 other }
         ensures { result ≡ ops.minus_down self other }
     {
-        difference::minus(false, self, other)
+        difference::minus(Direction::Down, self, other)
     }
 
     pub fn minus_down_telling(self, other: Figure) -> Rounded
         requires { Operand 9 self × Operand 9 other }
         ensures { result ≡ told (ops.minus_down self other) (losses.minus_keeps self other) }
     {
-        let figure = difference::minus(false, self, other);
-        telling::told(figure, difference::minus(true, self, other))
+        let figure = difference::minus(Direction::Down, self, other);
+        telling::told(figure, difference::minus(Direction::Up, self, other))
     }
 
     pub fn divided_up(self, other: Figure) -> Figure
         requires { Operand 9 self × Operand 9 other × (0 < other.digits) }
         ensures { result ≡ ops.divided_up self other }
     {
-        quotient::divided(true, self, other)
+        quotient::divided(Direction::Up, self, other)
     }
 
     pub fn divided_up_telling(self, other: Figure) -> Rounded
         requires { Operand 9 self × Operand 9 other × (0 < other.digits) }
         ensures { result ≡ told (ops.divided_up self other) (losses.divided_keeps self other) }
     {
-        let figure = quotient::divided(true, self, other);
-        telling::told(figure, quotient::divided(false, self, other))
+        let figure = quotient::divided(Direction::Up, self, other);
+        telling::told(figure, quotient::divided(Direction::Down, self, other))
     }
 
     pub fn divided_down(self, other: Figure) -> Figure
         requires { Operand 9 self × Operand 9 other × (0 < other.digits) }
         ensures { result ≡ ops.divided_down self other }
     {
-        quotient::divided(false, self, other)
+        quotient::divided(Direction::Down, self, other)
     }
 
     pub fn divided_down_telling(self, other: Figure) -> Rounded
         requires { Operand 9 self × Operand 9 other × (0 < other.digits) }
         ensures { result ≡ told (ops.divided_down self other) (losses.divided_keeps self other) }
     {
-        let figure = quotient::divided(false, self, other);
-        telling::told(figure, quotient::divided(true, self, other))
+        let figure = quotient::divided(Direction::Down, self, other);
+        telling::told(figure, quotient::divided(Direction::Up, self, other))
     }
 
     // Times ten to the power p, exactly.
@@ -254,7 +273,7 @@ impl Figure {
         requires { Operand 18 self × Operand 9 a }
         ensures { result ≡ ops.total_up self a }
     {
-        sum::plus(true, 18, self, total::widened(a))
+        sum::plus(Direction::Up, 18, self, total::widened(a))
     }
 
     pub fn total_up_telling(self, a: Figure) -> Rounded
@@ -262,15 +281,15 @@ impl Figure {
         ensures { result ≡ told (ops.total_up self a) (losses.total_keeps self a) }
     {
         let wide = total::widened(a);
-        let figure = sum::plus(true, 18, self, wide);
-        telling::told(figure, sum::plus(false, 18, self, wide))
+        let figure = sum::plus(Direction::Up, 18, self, wide);
+        telling::told(figure, sum::plus(Direction::Down, 18, self, wide))
     }
 
     pub fn total_down(self, a: Figure) -> Figure
         requires { Operand 18 self × Operand 9 a }
         ensures { result ≡ ops.total_down self a }
     {
-        sum::plus(false, 18, self, total::widened(a))
+        sum::plus(Direction::Down, 18, self, total::widened(a))
     }
 
     pub fn total_down_telling(self, a: Figure) -> Rounded
@@ -278,8 +297,8 @@ impl Figure {
         ensures { result ≡ told (ops.total_down self a) (losses.total_keeps self a) }
     {
         let wide = total::widened(a);
-        let figure = sum::plus(false, 18, self, wide);
-        telling::told(figure, sum::plus(true, 18, self, wide))
+        let figure = sum::plus(Direction::Down, 18, self, wide);
+        telling::told(figure, sum::plus(Direction::Up, 18, self, wide))
     }
 
     // A total, to nine digits.
@@ -287,30 +306,30 @@ impl Figure {
         requires { Operand 18 self }
         ensures { result ≡ ops.to_nine_up self }
     {
-        total::to_nine(true, self)
+        total::to_nine(Direction::Up, self)
     }
 
     pub fn to_nine_up_telling(self) -> Rounded
         requires { Operand 18 self }
         ensures { result ≡ told (ops.to_nine_up self) (losses.to_nine_keeps self) }
     {
-        let figure = total::to_nine(true, self);
-        telling::told(figure, total::to_nine(false, self))
+        let figure = total::to_nine(Direction::Up, self);
+        telling::told(figure, total::to_nine(Direction::Down, self))
     }
 
     pub fn to_nine_down(self) -> Figure
         requires { Operand 18 self }
         ensures { result ≡ ops.to_nine_down self }
     {
-        total::to_nine(false, self)
+        total::to_nine(Direction::Down, self)
     }
 
     pub fn to_nine_down_telling(self) -> Rounded
         requires { Operand 18 self }
         ensures { result ≡ told (ops.to_nine_down self) (losses.to_nine_keeps self) }
     {
-        let figure = total::to_nine(false, self);
-        telling::told(figure, total::to_nine(true, self))
+        let figure = total::to_nine(Direction::Down, self);
+        telling::told(figure, total::to_nine(Direction::Up, self))
     }
 
     // The sum of two totals, to nine digits.
@@ -318,14 +337,14 @@ impl Figure {
         requires { Operand 18 self × Operand 18 other }
         ensures { result ≡ ops.sum_to_nine_up self other }
     {
-        total::sum_to_nine(true, self, other)
+        total::sum_to_nine(Direction::Up, self, other)
     }
 
     pub fn sum_to_nine_up_telling(self, other: Figure) -> Rounded
         requires { Operand 18 self × Operand 18 other }
         ensures { result ≡ told (ops.sum_to_nine_up self other) (losses.sum_to_nine_keeps self other) }
     {
-        let figure = total::sum_to_nine(true, self, other);
-        telling::told(figure, total::sum_to_nine(false, self, other))
+        let figure = total::sum_to_nine(Direction::Up, self, other);
+        telling::told(figure, total::sum_to_nine(Direction::Down, self, other))
     }
 }

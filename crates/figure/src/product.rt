@@ -7,7 +7,7 @@ ghost use Rattle.figure.specs.Products.{product_divisor, eighteenth};
 ghost use Rattle.figure.specs.Internal.Steps.{rounded, scaling};
 
 use crate::division::Part;
-use crate::{Figure, division, powers};
+use crate::{Direction, Figure, division, powers};
 
 // The first nine digits of a product, and how many more it has.
 #[derive(Clone, Copy)]
@@ -41,9 +41,9 @@ fn nine_digits(p: u64) -> Scaled
 }
 
 // The product, rounded up or down.
-pub(crate) fn times(upward: bool, a: Figure, b: Figure) -> Figure
+pub(crate) fn times(to: Direction, a: Figure, b: Figure) -> Figure
     requires { Operand 9 a × Operand 9 b }
-    ensures { result ≡ rounded upward 9 (value a *ᶠ value b) }
+    ensures { result ≡ rounded to 9 (value a *ᶠ value b) }
 {
     let p = a.digits * b.digits;
     if p == 0 {
@@ -55,5 +55,5 @@ pub(crate) fn times(upward: bool, a: Figure, b: Figure) -> Figure
     let s = nine_digits(p);
     let part = s.part;
     let power = powers::sum(powers::sum(a.power, b.power), s.dropped);
-    division::directed(upward, 9, part, power)
+    division::directed(to, 9, part, power)
 }

@@ -5,7 +5,7 @@ ghost use Rattle.figure.specs.Rounding.{value};
 ghost use Rattle.figure.specs.Operands.{Operand};
 ghost use Rattle.figure.specs.Internal.Steps.{rounded, NineDigits, Padding};
 
-use crate::{Figure, division, powers};
+use crate::{Direction, Figure, division, powers};
 
 // How many zeros the first number needs so that its quotient by the second has nine digits, for two numbers of nine digits.
 fn zeros_needed(a: u64, b: u64) -> usize
@@ -16,9 +16,9 @@ fn zeros_needed(a: u64, b: u64) -> usize
 }
 
 // The quotient, rounded up or down.
-pub(crate) fn divided(upward: bool, a: Figure, b: Figure) -> Figure
+pub(crate) fn divided(to: Direction, a: Figure, b: Figure) -> Figure
     requires { Operand 9 a × Operand 9 b × (0 < b.digits) }
-    ensures { result ≡ rounded upward 9 (value a /ᶠ value b) }
+    ensures { result ≡ rounded to 9 (value a /ᶠ value b) }
 {
     if a.digits == 0 {
         return a;
@@ -29,5 +29,5 @@ pub(crate) fn divided(upward: bool, a: Figure, b: Figure) -> Figure
         powers::difference(a.power, b.power),
         powers::positive(zeros),
     );
-    division::directed(upward, 9, part, power)
+    division::directed(to, 9, part, power)
 }

@@ -6,12 +6,12 @@ ghost use Rattle.figure.specs.Operands.{Sized};
 ghost use Rattle.figure.specs.Internal.Steps.{rounded, Width, Ordered, Alignable, part, aligned_sum};
 
 use crate::division::Part;
-use crate::{Figure, division, powers};
+use crate::{Direction, Figure, division, powers};
 
 // The sum, rounded up or down.
-pub(crate) fn plus(upward: bool, width: usize, a: Figure, b: Figure) -> Figure
+pub(crate) fn plus(to: Direction, width: usize, a: Figure, b: Figure) -> Figure
     requires { Width width × Sized width 200000 a × Sized width 200000 b }
-    ensures { result ≡ rounded upward width (value a +ᶠ value b) }
+    ensures { result ≡ rounded to width (value a +ᶠ value b) }
 {
     if a.digits == 0 {
         return b;
@@ -20,20 +20,20 @@ pub(crate) fn plus(upward: bool, width: usize, a: Figure, b: Figure) -> Figure
         return a;
     }
     if b.power <= a.power {
-        joined(upward, width, a, b)
+        joined(to, width, a, b)
     } else {
-        joined(upward, width, b, a)
+        joined(to, width, b, a)
     }
 }
 
 // The sum of two figures that are not zero, the power of the first not below that of the second.
-fn joined(upward: bool, width: usize, large: Figure, small: Figure) -> Figure
+fn joined(to: Direction, width: usize, large: Figure, small: Figure) -> Figure
     requires { Width width × Ordered width large small }
-    ensures { result ≡ rounded upward width (value large +ᶠ value small) }
+    ensures { result ≡ rounded to width (value large +ᶠ value small) }
 {
     let part = aligned(large, small);
     let power = large.power;
-    division::trimmed(upward, width, part, power)
+    division::trimmed(to, width, part, power)
 }
 
 // The first, with what of the second reaches the first's last digit.

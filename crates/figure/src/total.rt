@@ -5,7 +5,7 @@ ghost use Rattle.figure.specs.Rounding.{value};
 ghost use Rattle.figure.specs.Operands.{Operand};
 ghost use Rattle.figure.specs.Internal.Steps.{rounded, Ordered, widening};
 
-use crate::{Figure, division, powers, sum};
+use crate::{Direction, Figure, division, powers, sum};
 
 // A figure of nine digits, with eighteen.
 pub(crate) fn widened(a: Figure) -> Figure
@@ -21,40 +21,40 @@ pub(crate) fn widened(a: Figure) -> Figure
 }
 
 // A total, rounded up or down to nine digits.
-pub(crate) fn to_nine(upward: bool, t: Figure) -> Figure
+pub(crate) fn to_nine(to: Direction, t: Figure) -> Figure
     requires { Operand 18 t }
-    ensures { result ≡ rounded upward 9 (value t) }
+    ensures { result ≡ rounded to 9 (value t) }
 {
     if t.digits == 0 {
         return t;
     }
     let part = division::parted(t.digits, 1_000_000_000);
-    division::directed(upward, 9, part, powers::sum(t.power, 9))
+    division::directed(to, 9, part, powers::sum(t.power, 9))
 }
 
 // The sum of two totals, rounded once, to nine digits.
-pub(crate) fn sum_to_nine(upward: bool, t: Figure, s: Figure) -> Figure
+pub(crate) fn sum_to_nine(to: Direction, t: Figure, s: Figure) -> Figure
     requires { Operand 18 t × Operand 18 s }
-    ensures { result ≡ rounded upward 9 (value t +ᶠ value s) }
+    ensures { result ≡ rounded to 9 (value t +ᶠ value s) }
 {
     if t.digits == 0 {
-        return to_nine(upward, s);
+        return to_nine(to, s);
     }
     if s.digits == 0 {
-        return to_nine(upward, t);
+        return to_nine(to, t);
     }
     if s.power <= t.power {
-        joined(upward, t, s)
+        joined(to, t, s)
     } else {
-        joined(upward, s, t)
+        joined(to, s, t)
     }
 }
 
 // The sum of two totals that are not zero, the power of the first not below that of the second.
-fn joined(upward: bool, large: Figure, small: Figure) -> Figure
+fn joined(to: Direction, large: Figure, small: Figure) -> Figure
     requires { Ordered 18 large small }
-    ensures { result ≡ rounded upward 9 (value large +ᶠ value small) }
+    ensures { result ≡ rounded to 9 (value large +ᶠ value small) }
 {
     let part = division::shortened(sum::aligned(large, small), 1_000_000_000);
-    division::trimmed(upward, 9, part, powers::sum(large.power, 9))
+    division::trimmed(to, 9, part, powers::sum(large.power, 9))
 }

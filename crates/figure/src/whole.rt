@@ -4,7 +4,7 @@ ghost use Rattle.std.specs.Int.Signed.{mag};
 ghost use Rattle.figure.specs.Rounding.{figure, value};
 ghost use Rattle.figure.specs.Internal.Steps.{rounded, Count};
 
-use crate::{Figure, division, powers};
+use crate::{Direction, Figure, division, powers};
 
 pub(crate) fn wide(c: u32) -> u64
     ensures { result ≡ c }
@@ -52,9 +52,9 @@ fn digit_count(n: u64) -> usize
 }
 
 // n times ten to power, rounded up or down to nine digits: zeros are put behind few digits, and the last of many divided off.
-pub(crate) fn fitted(upward: bool, n: u64, power: i32) -> Figure
+pub(crate) fn fitted(to: Direction, n: u64, power: i32) -> Figure
     requires { mag power ≤ 200000 }
-    ensures { result ≡ rounded upward 9 (value (figure n power)) }
+    ensures { result ≡ rounded to 9 (value (figure n power)) }
 {
     if n == 0 {
         return Figure {
@@ -71,5 +71,5 @@ pub(crate) fn fitted(upward: bool, n: u64, power: i32) -> Figure
     }
     let k = count - 9;
     let part = division::parted(n, powers::ten_to(k));
-    division::directed(upward, 9, part, powers::sum(power, powers::positive(k)))
+    division::directed(to, 9, part, powers::sum(power, powers::positive(k)))
 }

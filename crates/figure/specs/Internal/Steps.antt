@@ -4,6 +4,8 @@ use Rattle.std.specs.Prelude.{Bool, true, false, not, ◌||◌, ℕ, zero, suc, 
 use Rattle.std.specs.Int.Signed.{mag}
 use Rattle.fraction.specs.Fraction.{Fraction}
 use Rattle.figure.specs.declared.Figure.{Figure}
+use Rattle.figure.specs.declared.Direction.{Direction}
+use Rattle.figure.specs.declared.Direction.TheVariants.{Down, Up}
 use Rattle.figure.specs.declared.division.Part.{Part}
 use Rattle.figure.specs.declared.product.Scaled.{Scaled}
 use Rattle.figure.specs.Rounding.{figure, none, up, down}
@@ -11,9 +13,9 @@ use Rattle.figure.specs.Operands.{Sized}
 use Rattle.figure.specs.Products.{product_divisor, eighteenth}
 
 -- the two roundings as one, over the direction
-abbrev pub rounded : Bool → ℕ → Fraction → Figure
-rounded true K x = up K x
-rounded false K x = down K x
+abbrev pub rounded : Direction → ℕ → Fraction → Figure
+rounded Up K x = up K x
+rounded Down K x = down K x
 
 -- a number of digits that the code works with
 pub record Width (K : ℕ) : Type 0 where
@@ -33,12 +35,12 @@ unfoldable pub carry : ℕ → ℕ → ℤ → Figure
 carry K d e = elim (eqb d (10 ^ K)) [ true ↦ figure (10 ^ (K - 1)) (e +ℤ pos 1) | false ↦ figure d e ]
 
 -- the digits of a part at the power e: one more where the direction is up and something was left over
-unfoldable pub directed : Bool → ℕ → Part → ℤ → Figure
-directed upward K p e = elim upward [ true ↦ elim p.rest [ true ↦ carry K (p.whole + 1) e | false ↦ figure p.whole e ] | false ↦ figure p.whole e ]
+unfoldable pub directed : Direction → ℕ → Part → ℤ → Figure
+directed to K p e = elim to [ Up ↦ elim p.rest [ true ↦ carry K (p.whole + 1) e | false ↦ figure p.whole e ] | Down ↦ figure p.whole e ]
 
 -- the same for a part that may have one digit too many
-unfoldable pub trimmed : Bool → ℕ → Part → ℤ → Figure
-trimmed upward K p e = elim (ltb p.whole (10 ^ K)) [ true ↦ directed upward K p e | false ↦ directed upward K (shorter p 10) (e +ℤ pos 1) ]
+unfoldable pub trimmed : Direction → ℕ → Part → ℤ → Figure
+trimmed to K p e = elim (ltb p.whole (10 ^ K)) [ true ↦ directed to K p e | false ↦ directed to K (shorter p 10) (e +ℤ pos 1) ]
 
 -- how far the power of a stands above that of b
 abbrev pub gap_of : Figure → Figure → ℕ
@@ -86,10 +88,10 @@ pub record Count (m n r : ℕ) : Type 0 where
   pub most : r ≤ m
 
 -- a figure of nine digits less something above zero and below a tenth of its last digit
-unfoldable pub just_below : Bool → Figure → Figure
-just_below upward a = elim (eqb a.digits (10 ^ 8)) [
-  | true ↦ directed upward 9 (record { whole = 999999999; rest = true }) (a.power -ℤ pos 1)
-  | false ↦ directed upward 9 (record { whole = a.digits - 1; rest = true }) a.power
+unfoldable pub just_below : Direction → Figure → Figure
+just_below to a = elim (eqb a.digits (10 ^ 8)) [
+  | true ↦ directed to 9 (record { whole = 999999999; rest = true }) (a.power -ℤ pos 1)
+  | false ↦ directed to 9 (record { whole = a.digits - 1; rest = true }) a.power
 ]
 
 -- a figure of nine digits, with eighteen

@@ -1,5 +1,5 @@
 -- `Figure::of_quantity_telling` meets its contract. Assumes nothing.
-use mathlib.Core.Bool.{true, false}
+use Rattle.figure.specs.declared.Direction.TheVariants.{Down, Up}
 use Rattle.figure.specs.Operations.{of_quantity}
 use Rattle.figure.specs.Losses.{quantity_keeps}
 use Rattle.figure.proofs.Wholes.{quantity_power, quantity_answer}
@@ -15,5 +15,5 @@ fitted-requires c = quantity_power c.args.p c.requires c.negative-power.ensures
 pub returns : goal.returns
 unfolding of_quantity quantity_keeps
 returns c =
-    told_by 8 _ true (quantity_answer c.args.p c.requires c.negative-power.ensures true c.args.c c.wide-n.ensures c.fitted-figure.ensures)
-    (quantity_answer c.args.p c.requires c.negative-power.ensures false c.args.c c.wide-n.ensures c.fitted.ensures) c.told.ensures
+    told_by 8 _ Up (quantity_answer c.args.p c.requires c.negative-power.ensures Up c.args.c c.wide-n.ensures c.fitted-figure.ensures)
+    (quantity_answer c.args.p c.requires c.negative-power.ensures Down c.args.c c.wide-n.ensures c.fitted.ensures) c.told.ensures

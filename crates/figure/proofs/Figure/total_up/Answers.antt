@@ -1,5 +1,5 @@
 -- `Figure::total_up` meets its contract. Assumes nothing.
-use mathlib.Core.Bool.{true}
+use Rattle.figure.specs.declared.Direction.TheVariants.{Up}
 use Rattle.figure.specs.Operations.{total_up}
 use Rattle.figure.proofs.Figures.{sized_more}
 use Rattle.figure.proofs.Totals.{eighteen, widening_sized, total_answer}
@@ -10,4 +10,4 @@ plus-requires c = (eighteen, sized_more c.requires.0, rw c.widened.ensures (wide
 
 pub returns : goal.returns
 unfolding total_up
-returns c = total_answer c.requires.1 true c.args.self c.widened.ensures c.plus.ensures
+returns c = total_answer c.requires.1 Up c.args.self c.widened.ensures c.plus.ensures

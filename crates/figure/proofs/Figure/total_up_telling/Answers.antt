@@ -1,5 +1,5 @@
 -- `Figure::total_up_telling` meets its contract. Assumes nothing.
-use mathlib.Core.Bool.{true, false}
+use Rattle.figure.specs.declared.Direction.TheVariants.{Down, Up}
 use Rattle.figure.specs.Operations.{total_up}
 use Rattle.figure.specs.Losses.{total_keeps}
 use Rattle.figure.proofs.Figures.{sized_more}
@@ -16,5 +16,5 @@ plus-requires c = (eighteen, sized_more c.requires.0, rw c.widened-wide.ensures 
 pub returns : goal.returns
 unfolding total_up total_keeps
 returns c =
-    told_by 17 _ true (total_answer c.requires.1 true c.args.self c.widened-wide.ensures c.plus-figure.ensures)
-    (total_answer c.requires.1 false c.args.self c.widened-wide.ensures c.plus.ensures) c.told.ensures
+    told_by 17 _ Up (total_answer c.requires.1 Up c.args.self c.widened-wide.ensures c.plus-figure.ensures)
+    (total_answer c.requires.1 Down c.args.self c.widened-wide.ensures c.plus.ensures) c.told.ensures

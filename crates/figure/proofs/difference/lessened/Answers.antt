@@ -11,10 +11,10 @@ pub difference-requires : goal.difference-requires
 difference-requires c = (kept_near c.args.a.power (room tt c.requires.0.near), lit≤ tt)
 
 pub directed-requires : goal.directed-requires
-directed-requires c = (search rules, lit< tt, lower_near c.args.upward c.requires.0 c.difference.ensures)
+directed-requires c = (search rules, lit< tt, lower_near c.args.to c.requires.0 c.difference.ensures)
 
 pub returns-then-a-eq100000000 : goal.returns-then-a-eq100000000
-returns-then-a-eq100000000 c = below_least c.args.upward c.requires.0 c.if-a-eq100000000.true c.difference.ensures c.directed.ensures
+returns-then-a-eq100000000 c = below_least c.args.to c.requires.0 c.if-a-eq100000000.true c.difference.ensures c.directed.ensures
 
 pub directed-requires-2 : goal.directed-requires-2
 directed-requires-2 c = (
@@ -25,4 +25,4 @@ directed-requires-2 c = (
 )
 
 pub returns : goal.returns
-returns c = below_more c.args.upward c.requires.0 c.if-a-eq100000000.false c.directed-2.ensures
+returns c = below_more c.args.to c.requires.0 c.if-a-eq100000000.false c.directed-2.ensures

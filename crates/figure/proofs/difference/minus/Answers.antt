@@ -5,13 +5,13 @@ use Rattle.figure.proofs.Differences.{nothing_taken, taken_from_nothing, higher_
 use Rattle.figure.proofs.difference.minus.Goals as goal
 
 pub returns-then-b-eq0 : goal.returns-then-b-eq0
-returns-then-b-eq0 c = nothing_taken c.args.upward c.args.a c.args.b c.if-b-eq0.true c.requires.0.is_figure
+returns-then-b-eq0 c = nothing_taken c.args.to c.args.a c.args.b c.if-b-eq0.true c.requires.0.is_figure
 
 pub returns-then-a-eq0 : goal.returns-then-a-eq0
-returns-then-a-eq0 c = taken_from_nothing c.args.upward c.args.a c.args.b c.if-a-eq0.true c.requires.0.is_figure
+returns-then-a-eq0 c = taken_from_nothing c.args.to c.args.a c.args.b c.if-a-eq0.true c.requires.0.is_figure
 
 pub less-requires : goal.less-requires
 less-requires c = ordered (sized_more c.requires.0) (sized_more c.requires.1) c.if-a-eq0.false c.if-b-eq0.false c.if-b-a.true
 
 pub returns : goal.returns
-returns c = higher_taken c.args.upward c.args.a c.args.b c.requires.0 c.requires.1 c.if-b-eq0.false c.if-b-a.false
+returns c = higher_taken c.args.to c.args.a c.args.b c.requires.0 c.requires.1 c.if-b-eq0.false c.if-b-a.false

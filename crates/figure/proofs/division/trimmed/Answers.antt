@@ -13,7 +13,7 @@ directed-requires c =
 
 pub returns-then-part-ten_to : goal.returns-then-part-ten_to
 returns-then-part-ten_to c =
-    trimmed_short c.args.power (omega (arith, c.requires.2)) c.args.upward c.args.width c.args.part
+    trimmed_short c.args.power (omega (arith, c.requires.2)) c.args.to c.args.width c.args.part
     (rw c.ten_to.ensures at c.if-part-ten_to.true) c.directed.ensures
 
 pub sum-requires : goal.sum-requires
@@ -28,5 +28,5 @@ directed-requires-2 c = (
 
 pub returns : goal.returns
 returns c =
-    trimmed_long c.args.power (omega (arith, c.requires.2)) c.args.upward c.args.width c.args.part
+    trimmed_long c.args.power (omega (arith, c.requires.2)) c.args.to c.args.width c.args.part
     (rw c.ten_to.ensures at c.if-part-ten_to.false) c.shortened.ensures c.sum.ensures c.directed-2.ensures

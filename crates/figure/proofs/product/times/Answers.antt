@@ -9,7 +9,7 @@ pub overflow_mul-p : goal.overflow_mul-p
 overflow_mul-p c = product_fits c.requires.0 c.requires.1
 
 pub returns-then-p-eq0 : goal.returns-then-p-eq0
-returns-then-p-eq0 c = product_zero c.requires.0 c.requires.1 c.args.upward c.if-p-eq0.true
+returns-then-p-eq0 c = product_zero c.requires.0 c.requires.1 c.args.to c.if-p-eq0.true
 
 pub sum-requires : goal.sum-requires
 sum-requires c = (kept_near c.args.a.power (room tt c.requires.0.near), kept_near c.args.b.power (room tt c.requires.1.near))
@@ -26,4 +26,4 @@ directed-requires c = (
 
 pub returns : goal.returns
 returns c =
-    product_answer c.requires.0 c.requires.1 c.if-p-eq0.false c.nine_digits-s.ensures c.sum.ensures c.sum-power.ensures c.args.upward c.directed.ensures
+    product_answer c.requires.0 c.requires.1 c.if-p-eq0.false c.nine_digits-s.ensures c.sum.ensures c.sum-power.ensures c.args.to c.directed.ensures

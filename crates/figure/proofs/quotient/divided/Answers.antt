@@ -6,7 +6,7 @@ use Rattle.figure.proofs.Quotients.{quotient_zero, both_nine, padded_fits, quoti
 use Rattle.figure.proofs.quotient.divided.Goals as goal
 
 pub returns-then-a-eq0 : goal.returns-then-a-eq0
-returns-then-a-eq0 c = quotient_zero c.requires.0 c.requires.1 c.requires.2 c.args.upward c.if-a-eq0.true
+returns-then-a-eq0 c = quotient_zero c.requires.0 c.requires.1 c.requires.2 c.args.to c.if-a-eq0.true
 
 pub zeros_needed-zeros-requires : goal.zeros_needed-zeros-requires
 zeros_needed-zeros-requires c = both_nine c.requires.0 c.requires.1 c.requires.2 c.if-a-eq0.false
@@ -32,4 +32,4 @@ directed-requires c = (
 pub returns : goal.returns
 returns c =
     quotient_answer c.requires.0 c.requires.1 c.requires.2 c.zeros_needed-zeros.ensures c.ten_to.ensures c.difference.ensures c.positive.ensures
-    c.difference-power.ensures c.args.upward c.parted-part.ensures c.directed.ensures
+    c.difference-power.ensures c.args.to c.parted-part.ensures c.directed.ensures

@@ -16,4 +16,4 @@ trimmed-requires c = (
 )
 
 pub returns : goal.returns
-returns c = sum_answer c.args.upward c.requires.0 c.requires.1 c.aligned-part.ensures c.trimmed.ensures
+returns c = sum_answer c.args.to c.requires.0 c.requires.1 c.aligned-part.ensures c.trimmed.ensures

@@ -18,4 +18,4 @@ trimmed-requires c =
     (search rules, sum_nine_below c.requires c.aligned.ensures c.shortened-part.ensures, nine_higher c.args.large.power c.requires.first.near c.sum.ensures)
 
 pub returns : goal.returns
-returns c = sum_nine_answer c.requires c.aligned.ensures c.shortened-part.ensures c.args.upward c.sum.ensures c.trimmed.ensures
+returns c = sum_nine_answer c.requires c.aligned.ensures c.shortened-part.ensures c.args.to c.sum.ensures c.trimmed.ensures

@@ -4,7 +4,7 @@ use Rattle.figure.proofs.Wholes.{nothing_rounded, padding_fits, padding_powers, 
 use Rattle.figure.proofs.whole.fitted.Goals as goal
 
 pub returns-then-n-eq0 : goal.returns-then-n-eq0
-returns-then-n-eq0 c = nothing_rounded c.args.upward c.args.n c.args.power c.if-n-eq0.true
+returns-then-n-eq0 c = nothing_rounded c.args.to c.args.n c.args.power c.if-n-eq0.true
 
 pub overflow_mul-digits : goal.overflow_mul-digits
 overflow_mul-digits c = padding_fits c.digit_count-count.ensures c.if-count-le9.true c.ten_to.ensures
@@ -15,7 +15,7 @@ difference-power-requires c =
 
 pub returns-then-count-le9 : goal.returns-then-count-le9
 returns-then-count-le9 c =
-    padding_answer c.digit_count-count.ensures c.if-count-le9.true c.ten_to.ensures c.args.power c.requires c.positive.ensures c.args.upward
+    padding_answer c.digit_count-count.ensures c.if-count-le9.true c.ten_to.ensures c.args.power c.requires c.positive.ensures c.args.to
     c.difference-power.ensures
 
 pub parted-part-requires : goal.parted-part-requires
@@ -33,5 +33,5 @@ directed-requires c = (
 
 pub returns : goal.returns
 returns c =
-    whole_answer c.digit_count-count.ensures c.if-count-le9.false c.ten_to-2.ensures c.args.power c.requires c.positive-2.ensures c.sum.ensures c.args.upward
+    whole_answer c.digit_count-count.ensures c.if-count-le9.false c.ten_to-2.ensures c.args.power c.requires c.positive-2.ensures c.sum.ensures c.args.to
     c.parted-part.ensures c.directed.ensures
