@@ -6,6 +6,7 @@ pub mod Up
 pub mod Down
 pub mod Rounding
 pub mod Operations
+pub mod Directions
 pub mod Positive
 pub mod Exact
 pub mod Losses

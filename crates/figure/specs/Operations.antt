@@ -3,6 +3,8 @@
 use Rattle.std.specs.Prelude.{Bool, ℕ, zero, suc, ◌^◌, ℤ, pos, ◌+ℤ◌}
 use Rattle.fraction.specs.Fraction.{whole, ratio, at_most, ◌+ᶠ◌, ◌-ᶠ◌, ◌*ᶠ◌, ◌/ᶠ◌}
 use Rattle.figure.specs.declared.Figure.{Figure}
+use Rattle.figure.specs.declared.Direction.{Direction}
+use Rattle.figure.specs.declared.Direction.TheVariants.{Down, Up}
 use Rattle.figure.specs.Rounding.{figure, none, value, up, down}
 
 -- ---- nine digits
@@ -65,3 +67,36 @@ to_nine_down t = down 9 (value t)
 
 unfoldable pub sum_to_nine_up : Figure → Figure → Figure
 sum_to_nine_up t s = up 9 (value t +ᶠ value s)
+
+unfoldable pub sum_to_nine_down : Figure → Figure → Figure
+sum_to_nine_down t s = down 9 (value t +ᶠ value s)
+
+-- ---- each operation by the direction in which it rounds
+
+abbrev pub times : Direction → Figure → Figure → Figure
+times Up a b = times_up a b
+times Down a b = times_down a b
+
+abbrev pub plus : Direction → Figure → Figure → Figure
+plus Up a b = plus_up a b
+plus Down a b = plus_down a b
+
+abbrev pub minus : Direction → Figure → Figure → Figure
+minus Up a b = minus_up a b
+minus Down a b = minus_down a b
+
+abbrev pub divided : Direction → Figure → Figure → Figure
+divided Up a b = divided_up a b
+divided Down a b = divided_down a b
+
+abbrev pub total : Direction → Figure → Figure → Figure
+total Up t a = total_up t a
+total Down t a = total_down t a
+
+abbrev pub to_nine : Direction → Figure → Figure
+to_nine Up t = to_nine_up t
+to_nine Down t = to_nine_down t
+
+abbrev pub sum_to_nine : Direction → Figure → Figure → Figure
+sum_to_nine Up t s = sum_to_nine_up t s
+sum_to_nine Down t s = sum_to_nine_down t s

@@ -16,6 +16,7 @@ ghost use Rattle.figure.specs.Internal.Directions as directions;
 mod ceiling;
 mod difference;
 mod division;
+mod generic;
 mod powers;
 mod product;
 mod quotient;
@@ -23,6 +24,8 @@ mod sum;
 mod telling;
 mod total;
 mod whole;
+
+pub use generic::Arithmetic;
 
 #[repr(C)]
 #[derive(Clone, Copy, PartialEq, Eq)]
@@ -109,6 +112,60 @@ impl Figure {
         let power = powers::negative(p);
         let figure = whole::fitted(Direction::Up, n, power);
         telling::told(figure, whole::fitted(Direction::Down, n, power))
+    }
+
+    // The product, rounded as `to` says.
+    pub fn times(self, other: Figure, to: Direction) -> Figure
+        requires { Operand 9 self × Operand 9 other }
+        ensures { result ≡ ops.times to self other }
+    {
+        product::times(to, self, other)
+    }
+
+    pub fn plus(self, other: Figure, to: Direction) -> Figure
+        requires { Operand 9 self × Operand 9 other }
+        ensures { result ≡ ops.plus to self other }
+    {
+        sum::plus(to, 9, self, other)
+    }
+
+    // The difference; zero where it is not positive.
+    pub fn minus(self, other: Figure, to: Direction) -> Figure
+        requires { Operand 9 self × Operand 9 other }
+        ensures { result ≡ ops.minus to self other }
+    {
+        difference::minus(to, self, other)
+    }
+
+    pub fn divided(self, other: Figure, to: Direction) -> Figure
+        requires { Operand 9 self × Operand 9 other × (0 < other.digits) }
+        ensures { result ≡ ops.divided to self other }
+    {
+        quotient::divided(to, self, other)
+    }
+
+    // A total of eighteen digits, with a figure of nine added.
+    pub fn total(self, a: Figure, to: Direction) -> Figure
+        requires { Operand 18 self × Operand 9 a }
+        ensures { result ≡ ops.total to self a }
+    {
+        sum::plus(to, 18, self, total::widened(a))
+    }
+
+    // A total, to nine digits.
+    pub fn to_nine(self, to: Direction) -> Figure
+        requires { Operand 18 self }
+        ensures { result ≡ ops.to_nine to self }
+    {
+        total::to_nine(to, self)
+    }
+
+    // The sum of two totals, to nine digits.
+    pub fn sum_to_nine(self, other: Figure, to: Direction) -> Figure
+        requires { Operand 18 self × Operand 18 other }
+        ensures { result ≡ ops.sum_to_nine to self other }
+    {
+        total::sum_to_nine(to, self, other)
     }
 
     pub fn times_up(self, other: Figure) -> Figure

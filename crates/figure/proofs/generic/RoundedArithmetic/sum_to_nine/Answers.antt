@@ -1,0 +1,14 @@
+-- `sum_to_nine` of `Rounded` meets its contract: its mark is lost with either operand's, or where the two roundings differ. Assumes nothing.
+use mathlib.Core.Path.{ap₂, ◌∙◌}
+use mathlib.Core.Bool.{◌&&◌}
+use Rattle.figure.specs.Losses.{told, sum_to_nine_keeps}
+use Rattle.figure.proofs.Directions.{sum_to_nine_rounded}
+use Rattle.figure.proofs.Tellings.{compared}
+use Rattle.figure.proofs.generic.RoundedArithmetic.sum_to_nine.Goals as goal
+
+pub returns : goal.returns
+unfolding sum_to_nine_keeps
+returns c =
+    ap₂ (λ f k. told f (c.args.self.kept && (c.args.other.kept && k))) c.sum_to_nine-figure.ensures
+    (compared 8 _ c.args.to c.eq.ensures (c.sum_to_nine-figure.ensures ∙ sum_to_nine_rounded _ _ _)
+    ((rw c.opposite.ensures at c.sum_to_nine-turned.ensures) ∙ sum_to_nine_rounded _ _ _))
