@@ -1,5 +1,6 @@
-// Figures: nine digits and a power of ten, every operation rounded once. Totals have the same form with eighteen digits. Each operation that rounds has a
-// form beside it that tells whether it lost anything: it rounds both ways, and nothing is lost exactly if both come to the same figure.
+// Figures: nine digits and a power of ten, every operation rounded once, in the direction that it is given. Totals have the same form with eighteen digits. Each
+// operation is there for figures alone, and for figures that tell whether anything was lost: these round both ways, and nothing is lost exactly if both come to
+// the same figure.
 #![tactic(auto)]
 
 ghost use Rattle.std.specs.Prelude.{◌≡◌, ◌≤◌, ◌<◌};

@@ -3,7 +3,6 @@ use mathlib.Core.Path.{◌≡◌}
 use native.Mathlib.Omega.{arith}
 use borrow.Author.Rules.{rules}
 use Rattle.figure.specs.declared.Direction.TheVariants.{Up}
-use Rattle.figure.specs.Internal.Steps.{carry, directed}
 use Rattle.figure.proofs.Parts.{digits_fit, directed_more, directed_exact, directed_down}
 use Rattle.figure.proofs.division.directed.Goals as goal
 use Rattle.figure.proofs.division.directed.Goals.{else-eq-via-then-eq+else-p, else-eq-via-else-eq}
@@ -17,7 +16,7 @@ returns-then-p c =
     directed_more c.args.power c.requires.2 c.args.to c.args.width c.args.p up c.if-p.true c.carried.ensures
 
 pub returns : goal.returns
-returns c = elim c.else-eq.branch [ 
+returns c = elim c.else-eq.branch [
   | else-eq-via-then-eq+else-p w ↦ directed_exact c.args.power c.requires.2 c.args.to c.args.width c.args.p w.if-p.false
   | else-eq-via-else-eq w ↦ let not_up : c.args.to ≡ Up → ⊥ = search rules in directed_down c.args.power c.requires.2 c.args.to c.args.width c.args.p not_up
-  ]
+]
