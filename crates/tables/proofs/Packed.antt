@@ -14,6 +14,7 @@ use Rattle.figure.specs.declared.Figure.{Figure}
 use Rattle.figure.specs.Rounding.{figure, IsFigure, is_zero, is_whole}
 use Rattle.figure.specs.Operands.{Operand}
 use Rattle.figure.proofs.Stored.{stored, small, kept, mag_sum, mag_difference, sum_near, difference_nonneg, both_small, both_fit, both_kept}
+use Rattle.tables.specs.declared.pack.Packed.{Packed}
 use Rattle.tables.specs.Internal.Tables.{unpacked, marked, mark_of}
 
 -- ---- a power raised above 0
@@ -61,12 +62,17 @@ module _ (k : ℕ) (h : k < 2097152) where
   lowered_is = both_kept ◌-ℤ◌ mag_difference (pos k) (pos 1048576) low (lit≤ tt)
 
 -- what is unpacked, its power stored once more
-pub unpacked_is : (x : ℕ) (p : ℤ) → p ≡ pos (x / 1073741824 % 2097152) -ℤ pos 1048576 → figure (x % 1073741824) (stored p) ≡ unpacked x
+pub unpacked_is : (x : Packed) (p : ℤ) → p ≡ pos (x.bits / 1073741824 % 2097152) -ℤ pos 1048576
+    → figure (x.bits % 1073741824) (stored p) ≡ unpacked x
 unfolding unpacked
 unpacked_is x p e = ap₂ figure refl (kept p (le_trans {m = 3145730} near (lit≤ tt)) ∙ e)
   where
     near : mag p ≤ 3145730
-    near = rw e (omega (arith, mag_difference (pos (x / 1073741824 % 2097152)) (pos 1048576)))
+    near = rw e (omega (arith, mag_difference (pos (x.bits / 1073741824 % 2097152)) (pos 1048576)))
+
+-- an entry of these bits
+abbrev of_bits : ℕ → Packed
+of_bits x = record { bits = x }
 
 -- ---- the mark at bit 51, above a number below it
 
@@ -75,7 +81,7 @@ module _ {x : ℕ} (low : x < 2251799813685248) where
   marked_fits true = omega arith
   marked_fits false = omega arith
 
-  mark_read : (k : Bool) → marked (x + mark_of k) ≡ k
+  mark_read : (k : Bool) → marked (of_bits (x + mark_of k)) ≡ k
   unfolding marked
   mark_read true = let one : (x + 2251799813685248) / 2251799813685248 ≡ 1 = omega arith in ap (λ (q : ℕ). eqb q 1) one
   mark_read false = let none : (x + 0) / 2251799813685248 ≡ 0 = omega arith in ap (λ (q : ℕ). eqb q 1) none
@@ -90,7 +96,7 @@ high_kept : (x : ℕ) (k : Bool) → (x + mark_of k) / 1073741824 % 2097152 ≡ 
 high_kept x true = omega arith
 high_kept x false = omega arith
 
-unpacked_kept : (x : ℕ) (k : Bool) → unpacked (x + mark_of k) ≡ unpacked x
+unpacked_kept : (x : ℕ) (k : Bool) → unpacked (of_bits (x + mark_of k)) ≡ unpacked (of_bits x)
 unfolding unpacked
 unpacked_kept x k = rw (low_kept x k, high_kept x k)
 
@@ -104,7 +110,7 @@ module _ {n : ℕ} (few : n ≤ 1000000) where
     pub count_fits : Fits w64 (n + b)
     count_fits = rw mark (marked_fits few_below k)
 
-    pub count_is : ((n + b) % 1073741824 ≡ n) × (marked (n + b) ≡ k)
+    pub count_is : ((n + b) % 1073741824 ≡ n) × (marked (of_bits (n + b)) ≡ k)
     count_is = rw mark (low_kept n k ∙ small_self, mark_read few_below k)
       where
         small_self : n % 1073741824 ≡ n
@@ -132,7 +138,7 @@ module _ (f : Figure) (h : Operand 9 f) (r : ℕ) (raised : pos r ≡ stored f.p
   packed_below : f.digits + r * 1073741824 < 2251799813685248
   packed_below = omega (arith, raised_below f.power h.near r e, digits_below)
 
-  figure_is : unpacked (f.digits + r * 1073741824) ≡ f
+  figure_is : unpacked (of_bits (f.digits + r * 1073741824)) ≡ f
   unfolding unpacked
   figure_is = ap₂ figure (omega (arith, digits_below)) (ap set_back back ∙ ap (λ (z : ℤ). z -ℤ pos 1048576) e ∙ +ℤ-neg_ℤ_cancel f.power (pos 1048576))
     where
@@ -146,5 +152,6 @@ module _ (f : Figure) (h : Operand 9 f) (r : ℕ) (raised : pos r ≡ stored f.p
     pub packed_marked_fits : Fits w64 (f.digits + r * 1073741824 + b)
     packed_marked_fits = rw mark (marked_fits packed_below k)
 
-    pub packed_is : (unpacked (f.digits + r * 1073741824 + b) ≡ f) × (marked (f.digits + r * 1073741824 + b) ≡ k)
+    pub packed_is : (unpacked (of_bits (f.digits + r * 1073741824 + b)) ≡ f)
+        × (marked (of_bits (f.digits + r * 1073741824 + b)) ≡ k)
     packed_is = rw mark (unpacked_kept (f.digits + r * 1073741824) k ∙ figure_is, mark_read packed_below k)

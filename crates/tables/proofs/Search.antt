@@ -1,6 +1,5 @@
 -- The search for the least number whose cube or square reaches a figure. Assumes nothing.
 use mathlib.Core.Path.{◌≡◌, sym, ◌∙◌, ap}
-use mathlib.Core.Bool.{Bool, true, false}
 use Prim.Native.Nat.{ℕ, suc, suc-le-suc, ◌+◌, ◌*◌, ◌^◌, ◌≤◌, ◌<◌}
 use native.Mathlib.Nat.{le_of_suc-le-suc, le_antisymm, lt_of_not-le, le_trans, lt_irrefl, not-le_of_lt, pow-suc, pow-zero, pow-le-pow_left}
 use native.Mathlib.Decide.{dec_le}
@@ -9,9 +8,14 @@ use lib.Dec.{T, lit≤, le→leb, leb→le}
 use mir.Syntax.{w64}
 use mir.Val.{Fits}
 use Rattle.figure.specs.declared.Figure.{Figure}
+use Rattle.std.specs.declared.option.Option.{Option}
+use Rattle.std.specs.declared.option.Option.TheVariants.{None, Some}
+use Rattle.std.specs.Option.{MatchOption, unwrap_or}
 use Rattle.tree.specs.Grains.{reaches, least}
 use Rattle.tree.proofs.Least.{least_found}
 use Rattle.figure.specs.Internal.Ceiling.{Ceiling}
+use Rattle.tables.specs.declared.grains.Power.{Power}
+use Rattle.tables.specs.declared.grains.Power.TheVariants.{Square, Cube}
 use Rattle.tables.specs.Internal.Roots.{exponent, Below}
 
 -- ---- cubes and squares of numbers below 1,000,000
@@ -19,25 +23,19 @@ use Rattle.tables.specs.Internal.Roots.{exponent, Below}
 pub square_is : (n : ℕ) → n * n ≡ n ^ 2
 square_is n = sym (pow-suc n 1 ∙ rw (pow-suc n 0, pow-zero) (omega arith))
 
-cube_is : (n : ℕ) → n * n * n ≡ n ^ 3
+pub cube_is : (n : ℕ) → n * n * n ≡ n ^ 3
 cube_is n = ap (λ m. m * n) (square_is n) ∙ sym (pow-suc n 2)
 
-small_power : (cube : Bool) (n : ℕ) → n < 1000000 → n ^ exponent cube < 10 ^ 18
-small_power true n h = le_trans {m = suc (999999 ^ 3)} (omega (arith, pow-le-pow_left {n = n} {m = 999999} (omega arith) 3)) (lit≤ tt)
-small_power false n h = le_trans {m = suc (999999 ^ 2)} (omega (arith, pow-le-pow_left {n = n} {m = 999999} (omega arith) 2)) (lit≤ tt)
+small_power : (power : Power) (n : ℕ) → n < 1000000 → n ^ exponent power < 10 ^ 18
+small_power Cube n h = le_trans {m = suc (999999 ^ 3)} (omega (arith, pow-le-pow_left {n = n} {m = 999999} (omega arith) 3)) (lit≤ tt)
+small_power Square n h = le_trans {m = suc (999999 ^ 2)} (omega (arith, pow-le-pow_left {n = n} {m = 999999} (omega arith) 2)) (lit≤ tt)
 
-module _ (cube : Bool) (n : ℕ) (h : n < 1000000) where
+module _ (n : ℕ) (h : n < 1000000) where
   pub square_fits : Fits w64 (n * n)
-  square_fits = rw (square_is n) (omega (arith, small_power false n h))
+  square_fits = rw (square_is n) (omega (arith, small_power Square n h))
 
   pub cube_fits : Fits w64 (n * n * n)
-  cube_fits = rw (cube_is n) (omega (arith, small_power true n h))
-
-  pub cube_power : cube ≡ true → n * n * n ≡ n ^ exponent cube
-  cube_power e = rw e (cube_is n)
-
-  pub square_power : cube ≡ false → n * n ≡ n ^ exponent cube
-  square_power e = rw e (square_is n)
+  cube_fits = rw (cube_is n) (omega (arith, small_power Cube n h))
 
 -- ---- a search from a close number on
 
@@ -71,25 +69,44 @@ module _ {e c : ℕ} where
       go i p q (yes l) = rw (le_antisymm q l) k
       go i p q (no l) = s.first i p (lt_of_not-le l)
 
-module _ (cube : Bool) (g : Figure) (c : ℕ) (ceil : Ceiling g c) (n : ℕ) (s : Searched (exponent cube) c n) where
-  unreached : (i : ℕ) → 1 ≤ i → i < n → T (reaches (exponent cube) g i) → ⊥
+module _ (power : Power) (g : Figure) (c : ℕ) (ceil : Ceiling g c) (n : ℕ) (s : Searched (exponent power) c n) where
+  unreached : (i : ℕ) → 1 ≤ i → i < n → T (reaches (exponent power) g i) → ⊥
   unfolding reaches
   unreached i p q t =
-      not-le_of_lt (s.first i p q) (leb→le _ _ (rw (ceil.same (i ^ exponent cube) (small_power cube i (le_trans q s.high))) at t))
+      not-le_of_lt (s.first i p q) (leb→le _ _ (rw (ceil.same (i ^ exponent power) (small_power power i (le_trans q s.high))) at t))
 
-  pub searched_all : 1000000 ≤ n → 1000000 ≡ least (exponent cube) g
-  searched_all h = least_found (exponent cube) g 1000000 (record {
+  pub searched_all : 1000000 ≤ n → 1000000 ≡ least (exponent power) g
+  searched_all h = least_found (exponent power) g 1000000 (record {
     positive = lit≤ tt;
     bounded = lit≤ tt;
     passes = λ k. absurd (lt_irrefl 1000000 k);
     first = λ i p q t. unreached i p (le_trans q h) t;
   })
 
-  pub searched_found : n < 1000000 → c ≤ n ^ exponent cube → n ≡ least (exponent cube) g
+  pub searched_found : n < 1000000 → c ≤ n ^ exponent power → n ≡ least (exponent power) g
   unfolding reaches
-  searched_found h k = least_found (exponent cube) g n (record {
+  searched_found h k = least_found (exponent power) g n (record {
     positive = s.low;
     bounded = s.high;
-    passes = λ _. rw (ceil.same (n ^ exponent cube) (small_power cube n h)) (le→leb c (n ^ exponent cube) k);
+    passes = λ _. rw (ceil.same (n ^ exponent power) (small_power power n h)) (le→leb c (n ^ exponent power) k);
     first = unreached;
   })
+
+-- what a search over the numbers from n on finds, or that it finds none
+pub first_reached : (power : Power) (g : Figure) (c : ℕ) → Ceiling g c → (n : ℕ) → Searched (exponent power) c n → (r : Option ℕ)
+    → MatchOption r ((k : ℕ) → n ≤ k → k < 1000000 → k ^ exponent power < c)
+    (λ i. (n ≤ i) × (i < 1000000) × (c ≤ i ^ exponent power) × ((k : ℕ) → n ≤ k → k < i → k ^ exponent power < c))
+    → unwrap_or r 1000000 ≡ least (exponent power) g
+first_reached power g c ceil n s None none =
+    searched_all power g c ceil 1000000 (record { low = lit≤ tt; high = lit≤ tt; first = λ i p q. reach i p q (dec_le n i) }) (lit≤ tt)
+  where
+    reach : (i : ℕ) → 1 ≤ i → i < 1000000 → Dec (n ≤ i) → i ^ exponent power < c
+    reach i p q (yes l) = none i l q
+    reach i p q (no l) = s.first i p (lt_of_not-le l)
+first_reached power g c ceil n s (Some i) found =
+    searched_found power g c ceil i (record { low = le_trans s.low found.0; high = omega (arith, found.1); first = λ k p q. reach k p q (dec_le n k) })
+    found.1 found.2
+  where
+    reach : (k : ℕ) → 1 ≤ k → k < i → Dec (n ≤ k) → k ^ exponent power < c
+    reach k p q (yes l) = found.3 k l q
+    reach k p q (no l) = s.first k p (lt_of_not-le l)

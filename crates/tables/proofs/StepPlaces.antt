@@ -23,6 +23,7 @@ use Rattle.tree.proofs.Positive.{Above, mean_down_zero_iff}
 use Rattle.tree.proofs.Divisors.{time_above}
 use Rattle.tree.proofs.Ranges.{rate_sum_sized, mean_down_sized, moment_sum_sized, mission_time_sized}
 use Rattle.tables.specs.declared.steps.Step.{Step}
+use Rattle.tables.specs.declared.table.Table.{Table}
 use Rattle.tables.specs.Internal.Described.{described, net_of}
 use Rattle.tables.specs.Internal.Tables.{rate_sum_in, mean_down_in, moment_sum_in, rate_sum_kept_in, mean_down_kept_in, moment_sum_kept_in}
 use Rattle.tables.specs.Internal.Steps.{StepReady, class2_step_of, class3_step_of, step_of}
@@ -37,23 +38,23 @@ pub record Entry (held f : Rounded) : Type 0 where
 
 -- E, h' and H of a state as the table holds them
 
-abbrev pub rate_held : List ℕ → ℕ → Rounded
+abbrev pub rate_held : Table → ℕ → Rounded
 rate_held table s = told (rate_sum_in table s) (rate_sum_kept_in table s)
 
-abbrev pub mean_held : List ℕ → ℕ → Rounded
+abbrev pub mean_held : Table → ℕ → Rounded
 mean_held table s = told (mean_down_in table s) (mean_down_kept_in table s)
 
-abbrev pub moment_held : List ℕ → ℕ → Rounded
+abbrev pub moment_held : Table → ℕ → Rounded
 moment_held table s = told (moment_sum_in table s) (moment_sum_kept_in table s)
 
 -- what the table holds of the state s that a transition leaves
-pub record Leaves (ws table : List ℕ) (t : Transition) (s : ℕ) : Type 0 where
+pub record Leaves (ws : List ℕ) (table : Table) (t : Transition) (s : ℕ) : Type 0 where
   pub small : s ≤ 1000
   pub rate : Entry (rate_held table s) (rate_told (net_of ws) t.from)
   pub mean : Entry (mean_held table s) (mean_told (net_of ws) t.from)
   pub moment : Entry (moment_held table s) (moment_told (net_of ws) t.from)
 
-module _ {ws index table : List ℕ} {time : Figure} (h : StepReady ws index time table) where
+module _ {ws index : List ℕ} {table : Table} {time : Figure} (h : StepReady ws index time table) where
   pub time_in_range : Sized 9 40 time
   time_in_range = rw h.time_is (mission_time_sized h.indexes.valid)
 

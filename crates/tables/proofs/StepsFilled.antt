@@ -1,11 +1,11 @@
--- The sections of the transitions' shares, factors and grains, with their marks, while they are filled: the law of the loop of
+-- The entries of the transitions' shares, factors and grains, with their marks, while they are filled: the law of the loop of
 -- `steps::fill_steps`. Assumes nothing.
-use Prim.Native.Nat.{ℕ, ◌+◌, ◌%◌, ◌≤◌, ◌<◌}
+use Prim.Native.Nat.{ℕ, ◌+◌, ◌≤◌, ◌<◌}
 use mathlib.Core.Path.{◌≡◌, ap, ◌∙◌}
 use mathlib.Core.List.{List, []}
 use native.Mathlib.Omega.{arith}
 use lib.Dec.{lit≤}
-use lib.ListN.{length}
+use lib.ListN.{length, get_or, set}
 use Rattle.figure.specs.Operands.{Sized}
 use Rattle.figure.proofs.Sized.{sized-≤}
 use Rattle.word.specs.Model.{Transition, Net, Model}
@@ -19,9 +19,11 @@ use Rattle.tree.specs.Marks as marks
 use Rattle.tree.proofs.Least.{GrainsOf, grains_of_class, grains_high}
 use Rattle.tree.proofs.Ranges.{none_sized, share_sized, class2_factor_sized, class3_factor_sized}
 use Rattle.tables.specs.declared.steps.Step.{Step}
-use Rattle.tables.specs.Internal.Tables.{StatesHold, StepsHold, unpacked, marked, step_factor, step_factor_kept}
-use Rattle.tables.specs.Internal.Steps.{StepSized, WithStep, step_of}
-use Rattle.tables.proofs.Sections.{at_place, same_figure, same_mark, section_more}
+use Rattle.tables.specs.declared.table.StepEntry.{StepEntry}
+use Rattle.tables.specs.declared.table.Table.{Table}
+use Rattle.tables.specs.Internal.Tables.{StatesHold, StepsHold, unpacked, counted, marked, no_step, step_in, step_factor, step_factor_kept}
+use Rattle.tables.specs.Internal.Steps.{StepPacked, StepSized, step_of}
+use Rattle.tables.proofs.Sections.{same_figure, same_mark, put_more}
 
 -- ---- a step of a valid model is in range
 
@@ -49,7 +51,7 @@ module _ {m : Model} (valid : Valid m) {j : ℕ} (index : j < length m.net.table
 -- ---- the steps of the transitions below j
 
 module _ (net : Net) where
-  pub steps_none : (table : List ℕ) → StepsHold net 0 table
+  pub steps_none : (table : Table) → StepsHold net 0 table
   steps_none table = record {
     shares = λ k high. absurd (omega arith);
     factors = λ k high. absurd (omega arith);
@@ -58,50 +60,46 @@ module _ (net : Net) where
     grains_kept = λ k high. absurd (omega arith);
   }
 
-  module _ {j : ℕ} {table after : List ℕ} {x : Step} (inside : j < 4000) (put : WithStep table j x after) where
-    pub steps_more : x ≡ step_of net (transition net j) → StepsHold net j table → StepsHold net (j + 1) after
+  module _ {j : ℕ} (table : Table) {x : Step} (entry : StepEntry) (inside : j < length table.steps) (is : x ≡ step_of net (transition net j))
+      (packed : StepPacked x entry) where
+    -- what is read of an entry is that of its transition
+    more : {A : Type 0} (read : StepEntry → A) (f : ℕ → A) → read entry ≡ f j → ((i : ℕ) → i < j → read (step_in table i) ≡ f i)
+        → (k : ℕ) → k < j + 1 → read (get_or (set table.steps j entry) k no_step) ≡ f k
+    more read f = put_more (λ i v. read v ≡ f i) table.steps no_step entry inside
+
+    pub steps_more : StepsHold net j table → StepsHold net (j + 1) (record { states = table.states; steps = set table.steps j entry })
     unfolding step_of
-    steps_more x-is h = record {
-      shares =
-          section_more (λ k v. unpacked v ≡ share (transition net k).manner) (λ k. 4004 + k) table after
-          (put.share ∙ ap (λ (y : Step). y.share) x-is)
-          (λ i below. put.others (4004 + i) (λ e. omega arith) (λ e. omega arith) (λ e. omega arith)) h.shares;
+    steps_more h = record {
+      shares = more (λ e. unpacked e.share) (λ k. share (transition net k).manner) (packed.share ∙ ap (λ (y : Step). y.share) is) h.shares;
       factors =
-          section_more (λ k v. unpacked v ≡ step_factor net (class net (transition net k)) (transition net k)) (λ k. 8004 + k) table after
-          (same_figure (put.factor ∙ ap (λ (y : Step). y.factor) x-is))
-          (λ i below. put.others (8004 + i) (λ e. omega arith) (λ e. omega arith) (λ e. omega arith)) h.factors;
+          more (λ e. unpacked e.factor) (λ k. step_factor net (class net (transition net k)) (transition net k))
+          (same_figure (packed.factor ∙ ap (λ (y : Step). y.factor) is)) h.factors;
       grain_counts =
-          section_more (λ k v. v % 1073741824 ≡ grains net [] (transition net k)) (λ k. 12004 + k) table after
-          (put.grain_count ∙ ap (λ (y : Step). y.grains) x-is)
-          (λ i below. put.others (12004 + i) (λ e. omega arith) (λ e. omega arith) (λ e. omega arith)) h.grain_counts;
+          more (λ e. counted e.grains) (λ k. grains net [] (transition net k)) (packed.grain_count ∙ ap (λ (y : Step). y.grains) is)
+          h.grain_counts;
       factors_kept =
-          section_more (λ k v. marked v ≡ step_factor_kept net (class net (transition net k)) (transition net k)) (λ k. 8004 + k) table after
-          (same_mark (put.factor ∙ ap (λ (y : Step). y.factor) x-is))
-          (λ i below. put.others (8004 + i) (λ e. omega arith) (λ e. omega arith) (λ e. omega arith)) h.factors_kept;
+          more (λ e. marked e.factor) (λ k. step_factor_kept net (class net (transition net k)) (transition net k))
+          (same_mark (packed.factor ∙ ap (λ (y : Step). y.factor) is)) h.factors_kept;
       grains_kept =
-          section_more (λ k v. marked v ≡ marks.grains_kept net [] (transition net k)) (λ k. 12004 + k) table after
-          (put.grains_mark ∙ ap (λ (y : Step). y.grains_kept) x-is)
-          (λ i below. put.others (12004 + i) (λ e. omega arith) (λ e. omega arith) (λ e. omega arith)) h.grains_kept;
+          more (λ e. marked e.grains) (λ k. marks.grains_kept net [] (transition net k))
+          (packed.grains_mark ∙ ap (λ (y : Step). y.grains_kept) is) h.grains_kept;
     }
 
-    -- the states' sums stay
+  -- the states' sums stay
+  pub states_stay : {n : ℕ} {table : Table} (steps : List StepEntry) → StatesHold net n table
+      → StatesHold net n (record { states = table.states; steps = steps })
+  states_stay steps h = record {
+    rate_sums = h.rate_sums;
+    rate_sums_kept = h.rate_sums_kept;
+    means_up = h.means_up;
+    means_up_kept = h.means_up_kept;
+    means_down = h.means_down;
+    means_down_kept = h.means_down_kept;
+    moment_sums = h.moment_sums;
+    moment_sums_kept = h.moment_sums_kept;
+  }
 
-    stays : (i : ℕ) → i < 4004 → at_place after i ≡ at_place table i
-    stays i low = put.others i (λ e. omega arith) (λ e. omega arith) (λ e. omega arith)
-
-    pub states_stay : {n : ℕ} → n ≤ 1000 → StatesHold net n table → StatesHold net n after
-    states_stay few h = record {
-      rate_sums = λ s low high. ap unpacked (stays s (omega arith)) ∙ h.rate_sums s low high;
-      rate_sums_kept = λ s low high. ap marked (stays s (omega arith)) ∙ h.rate_sums_kept s low high;
-      means_up = λ s low high. ap unpacked (stays (1001 + s) (omega arith)) ∙ h.means_up s low high;
-      means_up_kept = λ s low high. ap marked (stays (1001 + s) (omega arith)) ∙ h.means_up_kept s low high;
-      means_down = λ s low high. ap unpacked (stays (2002 + s) (omega arith)) ∙ h.means_down s low high;
-      means_down_kept = λ s low high. ap marked (stays (2002 + s) (omega arith)) ∙ h.means_down_kept s low high;
-      moment_sums = λ s low high. ap unpacked (stays (3003 + s) (omega arith)) ∙ h.moment_sums s low high;
-      moment_sums_kept = λ s low high. ap marked (stays (3003 + s) (omega arith)) ∙ h.moment_sums_kept s low high;
-    }
-
-  pub steps_all : {j count n : ℕ} {table : List ℕ} → count ≤ j → count ≡ n → StepsHold net j table → StepsHold net n table
+  pub steps_all : {j count n : ℕ} {table : Table} → count ≤ j → count ≡ n → StepsHold net j table → StepsHold net n table
   steps_all all e h = record {
     shares = λ k high. h.shares k (omega arith);
     factors = λ k high. h.factors k (omega arith);

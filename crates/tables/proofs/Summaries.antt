@@ -9,6 +9,7 @@ use Rattle.figure.specs.declared.Figure.{Figure}
 use Rattle.model.specs.declared.Accepted.{Accepted}
 use Rattle.model.specs.Promise.{summary}
 use Rattle.tree.specs.States.{figure_of}
+use Rattle.tables.specs.declared.table.Table.{Table}
 use Rattle.tables.specs.Internal.Described.{Indexes, described, net_of, exit_total}
 use Rattle.tables.specs.Internal.Tables.{StatesHold}
 use Rattle.tables.specs.Internal.Steps.{StepReady}
@@ -27,6 +28,6 @@ module _ {ws index : List ℕ} (indexes : Indexes ws index) {a : Accepted} (is :
   pub transitions_are : {count : ℕ} → count ≡ exit_total index a.states → count ≡ length (net_of ws).table
   transitions_are e = e ∙ ap (exit_total index) states_are ∙ count_is indexes
 
-  pub steps_ready : {time : Figure} {table : List ℕ} → time ≡ figure_of a.time → StatesHold (net_of ws) a.states table
+  pub steps_ready : {time : Figure} {table : Table} → time ≡ figure_of a.time → StatesHold (net_of ws) a.states table
       → StepReady ws index time table
   steps_ready e h = record { indexes = indexes; time_is = e ∙ ap (λ (x : Accepted). figure_of x.time) is; states = rw states_are at h }

@@ -6,54 +6,44 @@ ghost use Rattle.tables.specs.Internal.Classes.{class_by, class_for, is_class1, 
 use figure::Figure;
 
 // Class 1: a slow step from a state without fast exits. Class 2: a fast step. Class 3: a slow step from a state with fast exits.
-#[derive(Clone, Copy)]
+#[derive(Clone, Copy, PartialEq, Eq)]
 pub enum Class {
     Class1,
     Class2,
     Class3,
 }
 
-// The class of a transition, by whether it is fast and by h of the state that it leaves, which is 0 exactly if that has no fast exits.
-pub fn class_of(fast: bool, mean: Figure) -> Class
-    ensures { class_for result ≡ class_by fast mean.digits }
-{
-    if fast {
-        return Class::Class2;
+impl Class {
+    // The class of a transition, by whether it is fast and by h of the state that it leaves, which is 0 exactly if that has no fast exits.
+    pub fn of(fast: bool, mean: Figure) -> Class
+        ensures { class_for result ≡ class_by fast mean.digits }
+    {
+        if fast {
+            return Class::Class2;
+        }
+        if mean.digits == 0 {
+            return Class::Class1;
+        }
+        Class::Class3
     }
-    if mean.digits == 0 {
-        return Class::Class1;
-    }
-    Class::Class3
-}
 
-pub fn is_class1(class: Class) -> bool
-    ensures { result ≡ is_class1 (class_for class) }
-{
-    match class {
-        Class::Class1 => true,
-        Class::Class2 => false,
-        Class::Class3 => false,
+    pub fn is_class1(self) -> bool
+        ensures { result ≡ is_class1 (class_for self) }
+    {
+        matches!(self, Class::Class1)
     }
-}
 
-// Whether a step of this class is slow.
-pub fn is_slow(class: Class) -> bool
-    ensures { result ≡ is_slow (class_for class) }
-{
-    match class {
-        Class::Class1 => true,
-        Class::Class2 => false,
-        Class::Class3 => true,
+    // Whether a step of this class is slow.
+    pub fn is_slow(self) -> bool
+        ensures { result ≡ is_slow (class_for self) }
+    {
+        !matches!(self, Class::Class2)
     }
-}
 
-// How many class 1 steps a step of this class is.
-pub fn counts_1(class: Class) -> u64
-    ensures { (result ≡ counts_1 (class_for class)) × (result ≤ 1) }
-{
-    match class {
-        Class::Class1 => 1,
-        Class::Class2 => 0,
-        Class::Class3 => 0,
+    // How many class 1 steps a step of this class is.
+    pub fn counts_1(self) -> u64
+        ensures { (result ≡ counts_1 (class_for self)) × (result ≤ 1) }
+    {
+        u64::from(self.is_class1())
     }
 }

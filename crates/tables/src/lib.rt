@@ -1,7 +1,7 @@
 // The table of what belongs to a state or to a transition alone, filled once, and the classes of steps.
 #![tactic(auto)]
 
-ghost use Rattle.std.specs.Prelude.{◌≡◌, ◌≤◌, length};
+ghost use Rattle.std.specs.Prelude.{◌≡◌, ◌≤◌};
 ghost use Rattle.model.specs.Promise.{summary};
 ghost use Rattle.tables.specs.Internal.Described.{Indexes, described, exit_total};
 ghost use Rattle.tables.specs.Internal.Tables.{Tabled};
@@ -27,9 +27,7 @@ pub fn transition_count(index: &Index, states: usize) -> usize
     ensures { result ≡ exit_total index.now states }
 {
     let mut total = 0;
-    let mut s = 0;
-    while s < states {
-        s += 1;
+    for s in 1..=states {
         total += exit_count(index, s);
     }
     total
@@ -37,8 +35,7 @@ pub fn transition_count(index: &Index, states: usize) -> usize
 
 // Fills the table for an accepted model, whatever it held.
 pub fn fill(words: &[u32], index: &Index, a: Accepted, table: &mut Table)
-    requires indexes { Indexes words.now index.now × (a ≡ summary (described words.now)) }
-    requires table_len { length table.old ≡ 16004 }
+    requires { Indexes words.now index.now × (a ≡ summary (described words.now)) }
     ensures { Tabled words.now table.new }
 {
     let t = a.time;

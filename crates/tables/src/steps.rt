@@ -6,12 +6,12 @@ ghost use Rattle.model.specs.Index.{transition, transition_at};
 ghost use Rattle.tables.specs.Internal.Described.{StandsFirst, net_of};
 ghost use Rattle.tables.specs.Internal.Tables.{Tabled};
 ghost use Rattle.tables.specs.Internal.Steps as by;
-ghost use Rattle.tables.specs.Internal.Steps.{StepReady, StepSized, WithStep};
+ghost use Rattle.tables.specs.Internal.Steps.{StepPacked, StepReady, StepSized};
 
 use crate::figures::{exactly, figure_at, second_moment};
-use crate::grains::least;
-use crate::pack::{both, pack_count, packed};
-use crate::table::{Table, told_mean_down, told_moment_sum, told_rate_sum};
+use crate::grains::{Power, least};
+use crate::pack::{Packed, both};
+use crate::table::{StepEntry, Table};
 use figure::{Figure, Rounded};
 use model::index::{Index, place_of};
 use word::fields::{from, is_fast, word_at};
@@ -23,6 +23,20 @@ struct Step {
     pub grains: u64,
     pub grains_kept: bool,
     pub factor: Rounded,
+}
+
+impl Step {
+    // As the table holds it.
+    fn packed(self) -> StepEntry
+        requires { StepSized self }
+        ensures { StepPacked self result }
+    {
+        StepEntry {
+            share: Packed::of(exactly(self.share)),
+            factor: Packed::of(self.factor),
+            grains: Packed::of_count(self.grains, self.grains_kept),
+        }
+    }
 }
 
 // What class 2 takes off 1, of E, the mean, M, T2 and n grains.
@@ -129,7 +143,7 @@ fn class2_step(part: &[u32], rate: Rounded, time: Figure) -> Step
     let time2 = time.times_down_telling(time);
     let quotient = class2_quotient(moment, time2);
     let goal = quotient.figure;
-    let n = least(true, goal.times_ten(18));
+    let n = least(Power::Cube, goal.times_ten(18));
     let y = class2_loss(rate, m, moment, time2, n);
     let factor = factor_of(q, exactly(Figure::of_whole(1)), y);
     Step {
@@ -150,7 +164,7 @@ fn class3_step(part: &[u32], rate: Rounded, mean: Rounded, moment: Rounded, time
     let share = figure_at(&part[1..]);
     let quotient = class3_quotient(moment, mean, time);
     let goal = quotient.figure;
-    let n = least(false, goal.times_ten(12));
+    let n = least(Power::Square, goal.times_ten(12));
     let y = class3_loss(rate, moment, time, n);
     let factor = factor_of(share, mean, y);
     Step {
@@ -168,12 +182,12 @@ fn step_at(words: &[u32], index: &Index, j: usize, time: Figure, table: &Table) 
 {
     let at = place_of(index, j);
     let w = word_at(&words[at..]);
-    let s = from(w);
-    let rate = told_rate_sum(table, s);
+    let state = table.states[from(w)];
+    let rate = state.rate.rounded();
     if is_fast(w) {
         return class2_step(&words[at..], rate, time);
     }
-    let mean = told_mean_down(table, s);
+    let mean = state.mean_down.rounded();
     let low = mean.figure;
     if low.digits == 0 {
         let share = figure_at(&words[at + 1..]);
@@ -184,22 +198,10 @@ fn step_at(words: &[u32], index: &Index, j: usize, time: Figure, table: &Table) 
             factor: exactly(Figure::zero()),
         };
     }
-    class3_step(&words[at..], rate, mean, told_moment_sum(table, s), time)
+    class3_step(&words[at..], rate, mean, state.moment.rounded(), time)
 }
 
-// The step of the transition j put into the table.
-fn put_step(table: &mut Table, j: usize, x: Step)
-    requires { (j < 4000) × (length table.old ≡ 16004) × StepSized x }
-    ensures { WithStep table.old j x table.new }
-{
-    let share = x.share;
-    let factor = x.factor;
-    table[4004 + j] = packed(exactly(share));
-    table[8004 + j] = packed(factor);
-    table[12004 + j] = pack_count(x.grains, x.grains_kept);
-}
-
-// The steps of the first `count` transitions, put into the table behind the sums of the states.
+// The steps of the first `count` transitions, put into the table beside the sums of the states.
 pub(crate) fn fill_steps(
     words: &[u32],
     index: &Index,
@@ -207,14 +209,11 @@ pub(crate) fn fill_steps(
     time: Figure,
     table: &mut Table,
 )
-    requires step_ready { StepReady words.now index.now time table.old × (count ≡ length (net_of words.now).table) }
-    requires table_len { length table.old ≡ 16004 }
+    requires { StepReady words.now index.now time table.old × (count ≡ length (net_of words.now).table) }
     ensures { Tabled words.now table.new }
 {
-    let mut j = 0;
-    while j < count {
+    for j in 0..count {
         let x = step_at(words, index, j, time, table);
-        put_step(table, j, x);
-        j += 1;
+        table.steps[j] = x.packed();
     }
 }

@@ -1,30 +1,38 @@
--- `transition_count` meets its contract: the loop's total is the sum up to s. Assumes nothing.
-use mathlib.Core.Path.{◌≡◌, refl, sym, ap, ap₂, ◌∙◌}
-use Prim.Native.Nat.{ℕ, ◌+◌}
-use native.Mathlib.Omega.{arith}
-use native.Mathlib.Nat.{le_antisymm}
-use native.Mathlib.Numerals.{add-one}
+-- `transition_count` meets its contract: the loop's total is the sum below s. Assumes nothing.
+use mathlib.Core.Path.{◌≡◌, refl, ap, ap₂, ◌∙◌}
+use Prim.Native.Nat.{ℕ, suc, ◌+◌, ◌-◌, ◌≤◌}
 use mathlib.Core.List.{List}
+use native.Mathlib.Omega.{arith}
 use Rattle.model.specs.Index.{exit_count}
 use Rattle.tables.specs.Internal.Described.{exit_total}
 use Rattle.tables.proofs.transition_count.Goals as goal
 
-more : (index : List ℕ) (s total n : ℕ) → total ≡ exit_total index s → n ≡ exit_count index (s + 1) → total + n ≡ exit_total index (s + 1)
+-- with the exits of the state s those up to it
+more : (index : List ℕ) (s total n : ℕ) → 1 ≤ s → total ≡ exit_total index (s - 1) → n ≡ exit_count index s → total + n ≡ exit_total index s
 unfolding exit_total
-more index s total n p q = ap₂ (λ x y. x + y) p (q ∙ ap (exit_count index) (add-one s)) ∙ ap (exit_total index) (sym (add-one s))
+more index s total n low p q =
+    let back : s ≡ suc (s - 1) = omega arith in
+    let forth : suc (s - 1) ≡ s = omega arith in
+    ap₂ (λ x y. x + y) p (q ∙ ap (exit_count index) back) ∙ ap (exit_total index) forth
 
 pub loop-s-init : goal.loop-s-init
 unfolding exit_total
-loop-s-init c = (refl, (omega arith, omega arith))
-
-pub overflow_add-total : goal.overflow_add-total
-overflow_add-total c = omega (arith, c.exit_count-total.ensures)
+loop-s-init c = (refl, omega arith, omega arith)
 
 pub loop-s-preserved : goal.loop-s-preserved
-loop-s-preserved c = (
-  more _ c.loop-s.s c.loop-s.total c.exit_count-total.result c.loop-s.invariant.0 c.exit_count-total.ensures.0,
-  (omega arith, omega (arith, c.exit_count-total.ensures)),
-)
+loop-s-preserved c =
+    let same : c.loop-s.s ≡ c.loop-s.s + 1 - 1 = omega arith in (
+      more c.args.index.now _ _ _ c.loop-s.auto.s c.loop-s.invariant.0 c.exit_count-total.ensures.0 ∙ ap (exit_total c.args.index.now) same,
+      omega arith,
+      omega (arith, c.exit_count-total.ensures),
+    )
 
 pub returns : goal.returns
-returns c = c.loop-s.invariant.0 ∙ ap (exit_total c.args.index.now) (le_antisymm c.loop-s.invariant.1.0 (omega arith))
+returns c =
+    let none : c.loop-s.s - 1 ≡ c.args.states = omega arith in
+    c.loop-s.invariant.0 ∙ ap (exit_total c.args.index.now) none
+
+pub returns-2 : goal.returns-2
+returns-2 c =
+    let all : c.loop-s.s ≡ c.args.states = omega arith in
+    more c.args.index.now _ _ _ c.loop-s.auto.s c.loop-s.invariant.0 c.exit_count-total.ensures.0 ∙ ap (exit_total c.args.index.now) all

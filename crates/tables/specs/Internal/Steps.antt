@@ -1,6 +1,6 @@
 -- The share, the grains and the lower factor of a step, with their marks, of its state's sums and the mission time as figures. Laws say that of a net's own sums they
 -- are the net's. No public contract cites this page. Assumes nothing: these are definitions.
-use Rattle.std.specs.Prelude.{ℕ, ◌+◌, ◌^◌, ◌≤◌, ◌≡◌, true, ◌&&◌, List, [], length, get_or, pos}
+use Rattle.std.specs.Prelude.{ℕ, ◌^◌, ◌≤◌, ◌≡◌, true, ◌&&◌, List, [], pos}
 use Rattle.figure.specs.declared.Figure.{Figure}
 use Rattle.figure.specs.declared.Rounded.{Rounded}
 use Rattle.figure.specs.Rounding.{none}
@@ -14,8 +14,10 @@ use Rattle.tree.specs.States.{figure_of, mission_time}
 use Rattle.tree.specs.Upper.{share}
 use Rattle.tree.specs.Grains.{least, grains}
 use Rattle.tables.specs.declared.steps.Step.{Step}
+use Rattle.tables.specs.declared.table.StepEntry.{StepEntry}
+use Rattle.tables.specs.declared.table.Table.{Table}
 use Rattle.tables.specs.Internal.Described.{Indexes, described, net_of}
-use Rattle.tables.specs.Internal.Tables.{StatesHold, share_in, factor_in, grain_count_in, factor_kept_in, grains_kept_in, step_factor, step_factor_kept}
+use Rattle.tables.specs.Internal.Tables.{StatesHold, unpacked, counted, marked, told_of, step_factor, step_factor_kept}
 use Rattle.tables.specs.Internal.Told.{moment_of}
 
 -- what class 2 takes off 1, of E, the mean, M, T2 and n grains
@@ -87,7 +89,7 @@ step_of net t = record {
 }
 
 -- what the steps are worked out from: a valid model with its index, T, and a table with the sums of its states
-pub record StepReady (ws index : List ℕ) (time : Figure) (table : List ℕ) : Type 0 where
+pub record StepReady (ws index : List ℕ) (time : Figure) (table : Table) : Type 0 where
   pub indexes : Indexes ws index
   pub time_is : time ≡ mission_time (net_of ws)
   pub states : StatesHold (net_of ws) (described ws).states table
@@ -98,11 +100,9 @@ pub record StepSized (x : Step) : Type 0 where
   pub factor : Operand 9 x.factor.figure
   pub grains : x.grains ≤ 1000000
 
--- a table with the step of the transition j put into it: at its three places, and nothing else changed
-pub record WithStep (before : List ℕ) (j : ℕ) (x : Step) (after : List ℕ) : Type 0 where
-  pub long : length after ≡ length before
-  pub share : share_in after j ≡ x.share
-  pub factor : told (factor_in after j) (factor_kept_in after j) ≡ x.factor
-  pub grain_count : grain_count_in after j ≡ x.grains
-  pub grains_mark : grains_kept_in after j ≡ x.grains_kept
-  pub others : (i : ℕ) → (i ≡ 4004 + j → ⊥) → (i ≡ 8004 + j → ⊥) → (i ≡ 12004 + j → ⊥) → get_or after i 0 ≡ get_or before i 0
+-- an entry of the table with a step
+pub record StepPacked (x : Step) (entry : StepEntry) : Type 0 where
+  pub share : unpacked entry.share ≡ x.share
+  pub factor : told_of entry.factor ≡ x.factor
+  pub grain_count : counted entry.grains ≡ x.grains
+  pub grains_mark : marked entry.grains ≡ x.grains_kept

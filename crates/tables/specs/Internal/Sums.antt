@@ -1,13 +1,13 @@
--- What is summed over the exits of a state, in one pass, and where the sums are put. Assumes nothing: these are definitions.
-use Rattle.std.specs.Prelude.{ℕ, ◌+◌, ◌≡◌, List, length, get_or}
+-- What is summed over the exits of a state, in one pass, and how the table holds the sums. Assumes nothing: these are definitions.
+use Rattle.std.specs.Prelude.{ℕ, ◌≡◌}
 use Rattle.figure.specs.Operands.{Sized}
 use Rattle.figure.specs.Losses.{told}
 use Rattle.word.specs.Model.{Manner, Net}
 use Rattle.tree.specs.Marks.{rate_kept_by, mean_up_kept_by, mean_down_kept_by, moment_kept_by, rate_sum_kept, mean_up_kept, mean_down_kept, moment_sum_kept}
 use Rattle.tree.specs.States.{rate_sum, mean_up, mean_down, moment_sum, add_rate, add_mean_up, add_mean_down, add_moment}
 use Rattle.tables.specs.declared.states.Sums.{Sums}
-use Rattle.tables.specs.Internal.Tables.{rate_sum_in, mean_up_in, mean_down_in, moment_sum_in}
-use Rattle.tables.specs.Internal.Tables.{rate_sum_kept_in, mean_up_kept_in, mean_down_kept_in, moment_sum_kept_in}
+use Rattle.tables.specs.declared.table.StateEntry.{StateEntry}
+use Rattle.tables.specs.Internal.Tables.{told_of}
 use Rattle.tables.specs.Internal.Told.{add_told}
 
 -- E, h, h' and H with one exit more, and their marks
@@ -35,11 +35,9 @@ sums net s = record {
   moment = told (moment_sum net s) (moment_sum_kept net s);
 }
 
--- a table with the sums of the state s put into it: at its four places, and nothing else changed
-pub record WithSums (before : List ℕ) (s : ℕ) (x : Sums) (after : List ℕ) : Type 0 where
-  pub long : length after ≡ length before
-  pub rate : told (rate_sum_in after s) (rate_sum_kept_in after s) ≡ x.rate
-  pub up : told (mean_up_in after s) (mean_up_kept_in after s) ≡ x.up
-  pub down : told (mean_down_in after s) (mean_down_kept_in after s) ≡ x.down
-  pub moment : told (moment_sum_in after s) (moment_sum_kept_in after s) ≡ x.moment
-  pub others : (i : ℕ) → (i ≡ s → ⊥) → (i ≡ 1001 + s → ⊥) → (i ≡ 2002 + s → ⊥) → (i ≡ 3003 + s → ⊥) → get_or after i 0 ≡ get_or before i 0
+-- an entry of the table with the sums of a state
+pub record SumsPacked (x : Sums) (entry : StateEntry) : Type 0 where
+  pub rate : told_of entry.rate ≡ x.rate
+  pub up : told_of entry.mean_up ≡ x.up
+  pub down : told_of entry.mean_down ≡ x.down
+  pub moment : told_of entry.moment ≡ x.moment

@@ -12,28 +12,14 @@ use Rattle.tables.proofs.Reached.{count_is, count_few, exit_more, index_small, e
 use Rattle.tables.proofs.StateSums.{summed_none, summed_more, summed_all, summed_sized}
 use Rattle.tables.proofs.states.sums_of.Goals as goal
 
-pub exit_count-count-requires : goal.exit_count-count-requires
-exit_count-count-requires c = c.requires.1
-
 pub loop-i-init : goal.loop-i-init
-loop-i-init c = (
-  omega arith,
-  summed_none (net_of c.args.words.now) c.args.s (rw c.zero.ensures at c.exactly.ensures) (rw c.zero-2.ensures at c.exactly-2.ensures)
-      (rw c.zero-3.ensures at c.exactly-3.ensures) (rw c.zero-4.ensures at c.exactly-4.ensures),
-)
-
-pub slot-requires : goal.slot-requires
-slot-requires c =
-    let few : c.exit_count-count.result ≤ 16 = count_few c.requires.0 c.requires.1 c.exit_count-count.ensures.0 in
-    (c.requires.1, omega (arith, c.loop-i-test.true, few))
+loop-i-init c =
+    let nothing = rw c.zero.ensures at c.exactly-nothing.ensures in
+    summed_none (net_of c.args.words.now) c.args.s nothing nothing nothing nothing
 
 pub place_of-at-requires : goal.place_of-at-requires
 place_of-at-requires c =
-    let slot_read : c.wide.result ≡ slot c.args.index.now c.args.s c.loop-i.i = c.wide.ensures.0 ∙ c.slot.ensures in
-    index_small c.requires.0 c.requires.1 c.exit_count-count.ensures.0 c.loop-i-test.true slot_read
-
-pub offset_bounds-words-at : goal.offset_bounds-words-at
-offset_bounds-words-at c = omega (arith, c.place_of-at.ensures.1)
+    index_small c.requires.0 c.requires.1 c.exit_count-count.ensures.0 c.loop-i-test.true (c.wide.ensures.0 ∙ c.slot.ensures)
 
 pub slice_bounds-with_exit-count : goal.slice_bounds-with_exit-count
 slice_bounds-with_exit-count c =
@@ -49,24 +35,22 @@ slice_bounds-with_exit-start c =
     exit_placed c.requires.0 c.requires.1 c.exit_count-count.ensures.0 c.loop-i-test.true slot_read c.place_of-at.ensures.0 in
     omega (arith, placed_inside placed)
 
-pub with_exit-r-requires : goal.with_exit-r-requires
-with_exit-r-requires c =
+pub with_exit-so_far-requires : goal.with_exit-so_far-requires
+with_exit-so_far-requires c =
     let slot_read : c.wide.result ≡ slot c.args.index.now c.args.s c.loop-i.i = c.wide.ensures.0 ∙ c.slot.ensures in
     let placed : Placed c.args.words.now (get_or (exits (net_of c.args.words.now) c.args.s) c.loop-i.i no_transition) c.place_of-at.result =
     exit_placed c.requires.0 c.requires.1 c.exit_count-count.ensures.0 c.loop-i-test.true slot_read c.place_of-at.ensures.0 in
     let few : c.exit_count-count.result ≤ 16 = count_few c.requires.0 c.requires.1 c.exit_count-count.ensures.0 in
-    (placed_first placed, summed_sized (net_of c.args.words.now) c.args.s c.loop-i.invariant.1 (omega (arith, few)))
+    (placed_first placed, summed_sized (net_of c.args.words.now) c.args.s c.loop-i.invariant (omega (arith, few)))
 
 pub loop-i-preserved : goal.loop-i-preserved
 loop-i-preserved c =
     let slot_read : c.wide.result ≡ slot c.args.index.now c.args.s c.loop-i.i = c.wide.ensures.0 ∙ c.slot.ensures in
     let placed : Placed c.args.words.now (get_or (exits (net_of c.args.words.now) c.args.s) c.loop-i.i no_transition) c.place_of-at.result =
-    exit_placed c.requires.0 c.requires.1 c.exit_count-count.ensures.0 c.loop-i-test.true slot_read c.place_of-at.ensures.0 in (
-      omega arith,
-      summed_more (net_of c.args.words.now) c.args.s c.loop-i.invariant.1
-          (exit_more c.requires.0 c.requires.1 c.exit_count-count.ensures.0 c.loop-i-test.true) placed c.with_exit-r.ensures,
-    )
+    exit_placed c.requires.0 c.requires.1 c.exit_count-count.ensures.0 c.loop-i-test.true slot_read c.place_of-at.ensures.0 in
+    summed_more (net_of c.args.words.now) c.args.s c.loop-i.invariant
+    (exit_more c.requires.0 c.requires.1 c.exit_count-count.ensures.0 c.loop-i-test.true) placed c.with_exit-so_far.ensures
 
 pub returns : goal.returns
 returns c =
-    summed_all (net_of c.args.words.now) c.args.s c.loop-i.invariant.1 (omega (arith, count_is c.requires.0 c.requires.1 c.exit_count-count.ensures.0))
+    summed_all (net_of c.args.words.now) c.args.s c.loop-i.invariant (omega (arith, count_is c.requires.0 c.requires.1 c.exit_count-count.ensures.0))

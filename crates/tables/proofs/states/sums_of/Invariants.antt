@@ -1,10 +1,6 @@
-use Prim.Native.Nat.{◌-◌, ◌≤◌}
 use Rattle.tables.specs.Internal.Described.{net_of}
 use Rattle.tables.proofs.StateSums.{SummedTo}
 use Rattle.tables.proofs.states.sums_of.Given as goal
 
 abbrev pub invariant-loop-i : goal.invariant-loop-i
-invariant-loop-i l = (l.i ≤ l.count) × SummedTo (net_of l.words) l.s l.i l.r
-
-abbrev pub decreases-loop-i : goal.decreases-loop-i
-decreases-loop-i l = l.count - l.i
+invariant-loop-i l = SummedTo (net_of l.words) l.s l.i l.so_far

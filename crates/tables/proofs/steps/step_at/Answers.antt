@@ -31,13 +31,13 @@ slice_bounds-word_at-start c =
     step_placed c.requires.0 c.requires.1 c.place_of-at.ensures.0 in
     omega (arith, placed_inside placed)
 
-pub told_rate_sum-rate-requires : goal.told_rate_sum-rate-requires
-told_rate_sum-rate-requires c =
+pub bounds-table-from : goal.bounds-table-from
+bounds-table-from c =
     let word_read : c.word_at-w.result ≡ get_or c.args.words.now c.place_of-at.result 0 = c.word_at-w.ensures
     ∙ part_word c.args.words.now c.place_of-at.result in
-    let leaves : Leaves c.args.words.now c.args.table.now (transition (net_of c.args.words.now) c.args.j) c.from-s.result =
-    step_leaves c.requires.0 c.requires.1 c.place_of-at.ensures.0 (c.from-s.ensures.value ∙ ap from_field word_read) in
-    leaves.small
+    let leaves : Leaves c.args.words.now c.args.table.now (transition (net_of c.args.words.now) c.args.j) c.from.result =
+    step_leaves c.requires.0 c.requires.1 c.place_of-at.ensures.0 (c.from.ensures.value ∙ ap from_field word_read) in
+    omega (arith, leaves.small)
 
 pub slice_bounds-class2_step-count : goal.slice_bounds-class2_step-count
 slice_bounds-class2_step-count c =
@@ -55,8 +55,8 @@ pub class2_step-requires : goal.class2_step-requires
 class2_step-requires c =
     let word_read : c.word_at-w.result ≡ get_or c.args.words.now c.place_of-at.result 0 = c.word_at-w.ensures
     ∙ part_word c.args.words.now c.place_of-at.result in
-    let leaves : Leaves c.args.words.now c.args.table.now (transition (net_of c.args.words.now) c.args.j) c.from-s.result =
-    step_leaves c.requires.0 c.requires.1 c.place_of-at.ensures.0 (c.from-s.ensures.value ∙ ap from_field word_read) in
+    let leaves : Leaves c.args.words.now c.args.table.now (transition (net_of c.args.words.now) c.args.j) c.from.result =
+    step_leaves c.requires.0 c.requires.1 c.place_of-at.ensures.0 (c.from.ensures.value ∙ ap from_field word_read) in
     let seven_read : eqb (kind (get_or c.args.words.now c.place_of-at.result 0)) 7 ≡ c.is_fast.result =
     sym (c.is_fast.ensures ∙ ap (λ (x : ℕ). eqb (kind x) 7) word_read) in
     let is_seven : eqb (kind (get_or c.args.words.now c.place_of-at.result 0)) 7 ≡ true = seven_read ∙ c.if-is_fast.true in
@@ -65,29 +65,21 @@ class2_step-requires c =
     let p = placed in record {
       stands_first = (placed_first p, ap is_fast (placed_manner p) ∙ placed_fast p ∙ is_seven);
       sized =
-          (rw c.told_rate_sum-rate.ensures leaves.rate.sized, time_in_range c.requires.0, time_positive c.requires.0);
+          (rw c.rounded-rate.ensures leaves.rate.sized, time_in_range c.requires.0, time_positive c.requires.0);
     }
 
 pub returns-then-is_fast : goal.returns-then-is_fast
 returns-then-is_fast c =
     let word_read : c.word_at-w.result ≡ get_or c.args.words.now c.place_of-at.result 0 = c.word_at-w.ensures
     ∙ part_word c.args.words.now c.place_of-at.result in
-    let leaves : Leaves c.args.words.now c.args.table.now (transition (net_of c.args.words.now) c.args.j) c.from-s.result =
-    step_leaves c.requires.0 c.requires.1 c.place_of-at.ensures.0 (c.from-s.ensures.value ∙ ap from_field word_read) in
+    let leaves : Leaves c.args.words.now c.args.table.now (transition (net_of c.args.words.now) c.args.j) c.from.result =
+    step_leaves c.requires.0 c.requires.1 c.place_of-at.ensures.0 (c.from.ensures.value ∙ ap from_field word_read) in
     let seven_read : eqb (kind (get_or c.args.words.now c.place_of-at.result 0)) 7 ≡ c.is_fast.result =
     sym (c.is_fast.ensures ∙ ap (λ (x : ℕ). eqb (kind x) 7) word_read) in
     let is_seven : eqb (kind (get_or c.args.words.now c.place_of-at.result 0)) 7 ≡ true = seven_read ∙ c.if-is_fast.true in
     let placed : Placed c.args.words.now (transition (net_of c.args.words.now) c.args.j) c.place_of-at.result =
     step_placed c.requires.0 c.requires.1 c.place_of-at.ensures.0 in
-    found_fast c.requires.0 placed leaves c.told_rate_sum-rate.ensures is_seven c.class2_step.ensures
-
-pub told_mean_down-mean-requires : goal.told_mean_down-mean-requires
-told_mean_down-mean-requires c =
-    let word_read : c.word_at-w.result ≡ get_or c.args.words.now c.place_of-at.result 0 = c.word_at-w.ensures
-    ∙ part_word c.args.words.now c.place_of-at.result in
-    let leaves : Leaves c.args.words.now c.args.table.now (transition (net_of c.args.words.now) c.args.j) c.from-s.result =
-    step_leaves c.requires.0 c.requires.1 c.place_of-at.ensures.0 (c.from-s.ensures.value ∙ ap from_field word_read) in
-    leaves.small
+    found_fast c.requires.0 placed leaves c.rounded-rate.ensures is_seven c.class2_step.ensures
 
 pub slice_bounds-figure_at-count : goal.slice_bounds-figure_at-count
 slice_bounds-figure_at-count c =
@@ -116,14 +108,14 @@ pub returns-then-low-eq0 : goal.returns-then-low-eq0
 returns-then-low-eq0 c =
     let word_read : c.word_at-w.result ≡ get_or c.args.words.now c.place_of-at.result 0 = c.word_at-w.ensures
     ∙ part_word c.args.words.now c.place_of-at.result in
-    let leaves : Leaves c.args.words.now c.args.table.now (transition (net_of c.args.words.now) c.args.j) c.from-s.result =
-    step_leaves c.requires.0 c.requires.1 c.place_of-at.ensures.0 (c.from-s.ensures.value ∙ ap from_field word_read) in
+    let leaves : Leaves c.args.words.now c.args.table.now (transition (net_of c.args.words.now) c.args.j) c.from.result =
+    step_leaves c.requires.0 c.requires.1 c.place_of-at.ensures.0 (c.from.ensures.value ∙ ap from_field word_read) in
     let seven_read : eqb (kind (get_or c.args.words.now c.place_of-at.result 0)) 7 ≡ c.is_fast.result =
     sym (c.is_fast.ensures ∙ ap (λ (x : ℕ). eqb (kind x) 7) word_read) in
     let not_seven : eqb (kind (get_or c.args.words.now c.place_of-at.result 0)) 7 ≡ false = seven_read ∙ c.if-is_fast.false in
     let placed : Placed c.args.words.now (transition (net_of c.args.words.now) c.args.j) c.place_of-at.result =
     step_placed c.requires.0 c.requires.1 c.place_of-at.ensures.0 in
-    found_lone c.requires.0 placed leaves c.told_rate_sum-rate.ensures not_seven c.told_mean_down-mean.ensures c.if-low-eq0.true c.figure_at-share.ensures
+    found_lone c.requires.0 placed leaves c.rounded-rate.ensures not_seven c.rounded-mean.ensures c.if-low-eq0.true c.figure_at-share.ensures
     (rw c.zero.ensures at c.exactly.ensures)
 
 pub slice_bounds-class3_step-count : goal.slice_bounds-class3_step-count
@@ -138,20 +130,12 @@ slice_bounds-class3_step-start c =
     step_placed c.requires.0 c.requires.1 c.place_of-at.ensures.0 in
     omega (arith, placed_inside placed)
 
-pub told_moment_sum-requires : goal.told_moment_sum-requires
-told_moment_sum-requires c =
-    let word_read : c.word_at-w.result ≡ get_or c.args.words.now c.place_of-at.result 0 = c.word_at-w.ensures
-    ∙ part_word c.args.words.now c.place_of-at.result in
-    let leaves : Leaves c.args.words.now c.args.table.now (transition (net_of c.args.words.now) c.args.j) c.from-s.result =
-    step_leaves c.requires.0 c.requires.1 c.place_of-at.ensures.0 (c.from-s.ensures.value ∙ ap from_field word_read) in
-    leaves.small
-
 pub class3_step-requires : goal.class3_step-requires
 class3_step-requires c =
     let word_read : c.word_at-w.result ≡ get_or c.args.words.now c.place_of-at.result 0 = c.word_at-w.ensures
     ∙ part_word c.args.words.now c.place_of-at.result in
-    let leaves : Leaves c.args.words.now c.args.table.now (transition (net_of c.args.words.now) c.args.j) c.from-s.result =
-    step_leaves c.requires.0 c.requires.1 c.place_of-at.ensures.0 (c.from-s.ensures.value ∙ ap from_field word_read) in
+    let leaves : Leaves c.args.words.now c.args.table.now (transition (net_of c.args.words.now) c.args.j) c.from.result =
+    step_leaves c.requires.0 c.requires.1 c.place_of-at.ensures.0 (c.from.ensures.value ∙ ap from_field word_read) in
     let seven_read : eqb (kind (get_or c.args.words.now c.place_of-at.result 0)) 7 ≡ c.is_fast.result =
     sym (c.is_fast.ensures ∙ ap (λ (x : ℕ). eqb (kind x) 7) word_read) in
     let not_seven : eqb (kind (get_or c.args.words.now c.place_of-at.result 0)) 7 ≡ false = seven_read ∙ c.if-is_fast.false in
@@ -160,9 +144,9 @@ class3_step-requires c =
     let p = placed in let l = leaves in record {
       stands_first = (placed_first p, ap is_fast (placed_manner p) ∙ placed_fast p ∙ not_seven);
       sized = (
-        rw c.told_rate_sum-rate.ensures l.rate.sized,
-        rw c.told_mean_down-mean.ensures l.mean.sized,
-        rw c.told_moment_sum.ensures l.moment.sized,
+        rw c.rounded-rate.ensures l.rate.sized,
+        rw c.rounded-mean.ensures l.mean.sized,
+        rw c.rounded.ensures l.moment.sized,
         time_in_range c.requires.0,
       );
       digits_nonzero = (pos_of_ne-zero c.if-low-eq0.false, time_positive c.requires.0);
@@ -172,12 +156,12 @@ pub returns : goal.returns
 returns c =
     let word_read : c.word_at-w.result ≡ get_or c.args.words.now c.place_of-at.result 0 = c.word_at-w.ensures
     ∙ part_word c.args.words.now c.place_of-at.result in
-    let leaves : Leaves c.args.words.now c.args.table.now (transition (net_of c.args.words.now) c.args.j) c.from-s.result =
-    step_leaves c.requires.0 c.requires.1 c.place_of-at.ensures.0 (c.from-s.ensures.value ∙ ap from_field word_read) in
+    let leaves : Leaves c.args.words.now c.args.table.now (transition (net_of c.args.words.now) c.args.j) c.from.result =
+    step_leaves c.requires.0 c.requires.1 c.place_of-at.ensures.0 (c.from.ensures.value ∙ ap from_field word_read) in
     let seven_read : eqb (kind (get_or c.args.words.now c.place_of-at.result 0)) 7 ≡ c.is_fast.result =
     sym (c.is_fast.ensures ∙ ap (λ (x : ℕ). eqb (kind x) 7) word_read) in
     let not_seven : eqb (kind (get_or c.args.words.now c.place_of-at.result 0)) 7 ≡ false = seven_read ∙ c.if-is_fast.false in
     let placed : Placed c.args.words.now (transition (net_of c.args.words.now) c.args.j) c.place_of-at.result =
     step_placed c.requires.0 c.requires.1 c.place_of-at.ensures.0 in
-    found_slow c.requires.0 placed leaves c.told_rate_sum-rate.ensures not_seven c.told_mean_down-mean.ensures c.if-low-eq0.false c.told_moment_sum.ensures
+    found_slow c.requires.0 placed leaves c.rounded-rate.ensures not_seven c.rounded-mean.ensures c.if-low-eq0.false c.rounded.ensures
     c.class3_step.ensures

@@ -1,4 +1,4 @@
--- `states::with_exit` meets its contract: the figures of the exit's quantities are in range, so each operation takes them. Assumes nothing.
+-- `states::Sums::with_exit` meets its contract: the figures of the exit's quantities are in range, so each operation takes them. Assumes nothing.
 use Prim.Native.Nat.{◌<◌}
 use mathlib.Core.Path.{◌≡◌, sym, ◌∙◌}
 use mathlib.Core.Bool.{true, false}
@@ -13,7 +13,7 @@ use Rattle.tables.specs.Internal.Told.{moment_of}
 use Rattle.tables.proofs.Firsts.{FastRead, SlowRead, first_long, first_long_fast, fast_1, fast_2, fast_3, fast_read, slow_1, slow_read}
 use Rattle.tables.proofs.Firsts.{mean_sized, deviation_sized, probability_sized, rate_sized}
 use Rattle.tables.proofs.StateSums.{with_fast, with_slow}
-use Rattle.tables.proofs.states.with_exit.Goals as goal
+use Rattle.tables.proofs.states.Sums.with_exit.Goals as goal
 
 pub bounds-part-0 : goal.bounds-part-0
 bounds-part-0 c = omega (arith, first_long c.requires.0)
@@ -131,7 +131,7 @@ returns-then-is_fast c =
     let is_seven : eqb (kind (get_or c.args.part.now 0 0)) 7 ≡ true = sym c.is_fast.ensures ∙ c.if-is_fast.true in
     let fast_figures : FastRead (transition_at c.args.part.now).manner c.figure_at-m.result c.figure_at-d.result c.figure_at-q.result =
     fast_read c.requires.0 is_seven c.figure_at-m.ensures c.figure_at-d.ensures c.figure_at-q.ensures in
-    with_fast c.args.s fast_figures c.times_up_telling.ensures c.added_up-more_up.ensures c.times_down_telling.ensures c.added_down-more_down.ensures
+    with_fast c.args.self fast_figures c.times_up_telling.ensures c.added_up-more_up.ensures c.times_down_telling.ensures c.added_down-more_down.ensures
     c.second_moment.ensures c.by_moment.ensures c.added_up-more_moment.ensures
 
 pub slice_bounds-figure_at-count-2 : goal.slice_bounds-figure_at-count-2
@@ -155,4 +155,4 @@ pub returns : goal.returns
 returns c =
     let not_seven : eqb (kind (get_or c.args.part.now 0 0)) 7 ≡ false = sym c.is_fast.ensures ∙ c.if-is_fast.false in
     let slow_figure : SlowRead (transition_at c.args.part.now).manner c.figure_at.result = slow_read c.requires.0 not_seven c.figure_at.ensures in
-    with_slow c.args.s slow_figure c.exactly.ensures c.added_up-more_rate.ensures
+    with_slow c.args.self slow_figure c.exactly.ensures c.added_up-more_rate.ensures
