@@ -3,7 +3,6 @@ pub mod ExitTips
 pub mod ExitReading
 pub mod PathSums
 pub mod PathSteps
-pub mod PathArrays
 pub mod StepMarks
 pub mod MarkFacts
 pub mod PathMarks

@@ -107,18 +107,18 @@ module _ (net : Net) (p : Path) {s : SpentTold} (s-is : s ≡ spent_told net p) 
   pub lower_full : 1000000 ≤ s.grains → s.grains_kept ≡ lower_kept net p
   lower_full h = grains_kept_are ∙ lower_kept_full net p (rw grains_are at h)
 
--- ---- the path that an array holds
+-- ---- the path that a slice holds
 
-module _ {m : Model} (valid : Valid m) {l : List ℕ} {d : ℕ} (known : Known m.net l d) {s : SpentTold}
-    (s-is : s ≡ spent_told m.net (path_of m.net l d)) where
+module _ {m : Model} (valid : Valid m) {l : List ℕ} (known : Known m.net l) {s : SpentTold}
+    (s-is : s ≡ spent_told m.net (path_of m.net l)) where
   abbrev net : Net
   net = m.net
 
   abbrev path : Path
-  path = path_of net l d
+  path = path_of net l
 
   short : length path ≤ 24
-  short = omega (arith, path_length net l d, known.short)
+  short = omega (arith, path_length net l, known.short)
 
   pub rates_sized : Sized 9 1000 s.rates
   rates_sized = rw (rates_are net path s-is) (sized-≤ (omega (arith, short)) (path_rate_sum_sized valid path))

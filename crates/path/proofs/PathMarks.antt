@@ -1,4 +1,4 @@
--- The marks of a path held in an array, one step after the other, beside what they are marks of: U, N', A, k and the product of the factors.
+-- The marks of a path held in a slice, one step after the other, beside what they are marks of: U, N', A, k and the product of the factors.
 -- Assumes nothing.
 use Prim.Native.Nat.{ℕ, ◌+◌}
 use mathlib.Core.Path.{◌≡◌, refl, sym, ap, ap₂, ◌∙◌}

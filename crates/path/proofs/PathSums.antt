@@ -1,12 +1,15 @@
--- What is worked out along a path held in an array: N', A, k and the product of the factors, one step after the other, and their ranges. Assumes
+-- What is worked out along a path held in a slice: N', A, k and the product of the factors, one step after the other, and their ranges. Assumes
 -- nothing.
-use Prim.Native.Nat.{ℕ, zero, suc, ◌+◌, ◌*◌, ◌≤◌}
+use Prim.Native.Nat.{ℕ, zero, suc, ◌+◌, ◌*◌, ◌<◌, ◌≤◌}
 use mathlib.Core.Path.{◌≡◌, refl, sym, ap, ◌∙◌}
-use mathlib.Core.List.{List, [], ◌∷◌}
+use mathlib.Core.List.{List, [], ◌∷◌, ◌++◌}
 use native.Mathlib.Nat.{le_trans}
-use native.Mathlib.Numerals.{add-one}
 use native.Mathlib.Omega.{arith}
 use lib.ListN.{length, get_or}
+use Rattle.std.proofs.Common.{All, map, reverse, take}
+use Rattle.std.proofs.lemmas.List.{map-append, reverse-append, length-reverse, length-map, length-take, length-append}
+use Rattle.std.proofs.lemmas.List.Elements.{All-take, All-append}
+use Rattle.std.proofs.lemmas.Grind.{take_at_read}
 use Rattle.figure.specs.declared.Figure.{Figure}
 use Rattle.figure.specs.Rounding.{none}
 use Rattle.figure.specs.Operands.{Sized}
@@ -29,34 +32,66 @@ use Rattle.tables.specs.Internal.Tables.{step_factor}
 use Rattle.tables.proofs.Classes.{step_valid, counts_none}
 use Rattle.path.specs.Internal.Paths.{path_of, Known, own_grains}
 
--- ---- the path of an array's first entries
+-- ---- the path of a slice
 
-pub path_none : (net : Net) (l : List ℕ) → path_of net l 0 ≡ []
+pub path_none : (net : Net) → path_of net [] ≡ []
 unfolding path_of
-path_none net l = refl
+path_none net = refl
 
-pub path_more : (net : Net) (l : List ℕ) (d : ℕ) {j : ℕ} → j ≡ get_or l d 0 → path_of net l (d + 1) ≡ transition net j ∷ path_of net l d
+-- a step more at the end of the slice
+pub path_longer : (net : Net) (l : List ℕ) (j : ℕ) → path_of net (l ++ j ∷ []) ≡ transition net j ∷ path_of net l
 unfolding path_of
-path_more net l d e = rw (e, add-one)
+path_longer net l j = ap reverse (map-append (transition net) l (j ∷ [])) ∙ reverse-append (map (transition net) l) (transition net j ∷ [])
 
-pub path_length : (net : Net) (l : List ℕ) (d : ℕ) → length (path_of net l d) ≡ d
+pub path_more : (net : Net) (l : List ℕ) (i : ℕ) {j : ℕ} → i < length l → j ≡ get_or l i 0
+    → path_of net (take (i + 1) l) ≡ transition net j ∷ path_of net (take i l)
+path_more net l i low e = rw (e, (take_at_read l i 0 low).1) (path_longer net (take i l) (get_or l i 0))
+
+pub path_length : (net : Net) (l : List ℕ) → length (path_of net l) ≡ length l
 unfolding path_of
-path_length net l zero = refl
-path_length net l (suc d) = ap suc (path_length net l d)
+path_length net l = length-reverse (map (transition net) l) ∙ length-map l (transition net)
 
-pub known_less : {net : Net} {l : List ℕ} {d : ℕ} (i : ℕ) → i ≤ d → Known net l d → Known net l i
-known_less i h k = record { short = le_trans h k.short; inside = λ a b. k.inside a (le_trans b h) }
+pub known_take : {net : Net} {l : List ℕ} (i : ℕ) → Known net l → Known net (take i l)
+known_take {net} {l} i k = record { short = omega (arith, length-take i l, k.short); inside = All-take (λ (j : ℕ). j < length net.table) i l k.inside }
 
-pub path_valid : {m : Model} (valid : Valid m) (l : List ℕ) (d : ℕ) → Known m.net l d → ValidSteps (path_of m.net l d)
+known_rest : {net : Net} {l : List ℕ} {j : ℕ} → Known net (j ∷ l) → Known net l
+known_rest k = record { short = omega (arith, k.short); inside = λ i d h. k.inside (suc i) d (omega arith) }
+
+pub known_more : {net : Net} {l : List ℕ} {j : ℕ} → length l < 24 → j < length net.table → Known net l → Known net (l ++ j ∷ [])
+known_more {net} {l} {j} room low k = record {
+  short = rw (length-append l (j ∷ [])) (omega arith);
+  inside = All-append (λ (i : ℕ). i < length net.table) l (j ∷ []) k.inside one;
+}
+  where
+    one : All (λ (i : ℕ). i < length net.table) (j ∷ [])
+    one zero d h = low
+    one (suc i) d h = absurd (omega arith)
+
+-- the entry at i, as the code reads it
+pub entry_inside : {net : Net} {l : List ℕ} {i j : ℕ} → Known net l → i < length l → j ≡ get_or l i 0 → j < length net.table
+entry_inside {i = i} k low e = rw e (k.inside i 0 low)
+
+-- of a valid model its steps are valid
+each_append : {A : Type 0} (Q : A → Type 0) (xs ys : List A) → Each Q xs → Each Q ys → Each Q (xs ++ ys)
+unfolding Each
+each_append Q [] ys h k = k
+each_append Q (x ∷ xs) ys h k = (h.0, each_append Q xs ys h.1 k)
+
+pub path_valid : {m : Model} (valid : Valid m) (l : List ℕ) → Known m.net l → ValidSteps (path_of m.net l)
 unfolding path_of Each
-path_valid valid l zero k = tt
-path_valid valid l (suc d) k = ((step_valid valid (k.inside d (omega arith))).manner, path_valid valid l d (known_less d (omega arith) k))
+path_valid valid [] k = tt
+path_valid {m} valid (j ∷ l) k =
+    rw (reverse-append (transition m.net j ∷ []) (map (transition m.net) l))
+    (each_append (λ (t : Transition). ValidManner t.manner) (path_of m.net l) (transition m.net j ∷ []) (path_valid valid l (known_rest k)) ((step_valid valid (k.inside 0 0 (omega arith))).manner, tt))
 
 -- ---- N' and A of a path
 
 pub record SpentOn (net : Net) (p : Path) (n : ℕ) (a : Figure) : Type 0 where
   pub grains_are : n ≡ grain_sum net (own_grains net) p
   pub rates_are : a ≡ path_rate_sum net p
+
+pub spent_of : {net : Net} {p : Path} {n : ℕ} {a : Figure} → n ≡ grain_sum net (own_grains net) p → a ≡ path_rate_sum net p → SpentOn net p n a
+spent_of e f = record { grains_are = e; rates_are = f }
 
 pub spent_start : (net : Net) → SpentOn net [] 0 none
 spent_start net = record { grains_are = sym (grain_sum_start net (own_grains net)); rates_are = sym (path_rate_sum_start net) }
@@ -161,19 +196,21 @@ step_factor_sized {m} valid t w = go (class m.net t) (grains_of_class m.net [] t
     go class2 r = class2_factor_sized valid t.from t.manner w r.0 r.1
     go class3 r = class3_factor_sized valid t.from t.manner w r.0 r.1
 
-module _ {m : Model} (valid : Valid m) {l : List ℕ} {d : ℕ} (known : Known m.net l d) where
-  length_is : length (path_of m.net l d) ≡ d
-  length_is = path_length m.net l d
+module _ {m : Model} (valid : Valid m) {l : List ℕ} (known : Known m.net l) where
+  short : length (path_of m.net l) ≤ 24
+  short = omega (arith, path_length m.net l, known.short)
 
-  short : length (path_of m.net l d) ≤ 24
-  short = omega (arith, length_is, known.short)
+  pub grains_fit : {n : ℕ} {a : Figure} → SpentOn m.net (path_of m.net l) n a → n ≤ 24000000
+  grains_fit s = spent_high s short
 
-  pub spent_sized : {n : ℕ} {a : Figure} → SpentOn m.net (path_of m.net l d) n a → Sized 9 980 a
-  spent_sized s = rw s.rates_are (sized-≤ (omega (arith, short)) (path_rate_sum_sized valid (path_of m.net l d)))
+  pub spent_sized : {n : ℕ} {a : Figure} → SpentOn m.net (path_of m.net l) n a → Sized 9 980 a
+  spent_sized s = rw s.rates_are (sized-≤ (omega (arith, short)) (path_rate_sum_sized valid (path_of m.net l)))
 
-  pub multiplied_sized : {t f : Figure} {k : ℕ} → Sized 9 100 t → Multiplied m.net t (path_of m.net l d) k f → Sized 9 30000 f
+  pub multiplied_sized : {t f : Figure} {k : ℕ} → Sized 9 100 t → Multiplied m.net t (path_of m.net l) k f → Sized 9 30000 f
   multiplied_sized h s = rw s.product_is (sized-≤ (omega (arith, short))
-      (lower_product_sized valid (own_grains m.net) (path_of m.net l d) (grains_of_class m.net []) short (path_valid valid l d known) h))
+      (lower_product_sized valid (own_grains m.net) (path_of m.net l) (grains_of_class m.net []) short (path_valid valid l known) h))
 
-  pub ones_high : {t f : Figure} {k : ℕ} → Multiplied m.net t (path_of m.net l d) k f → k ≤ d
-  ones_high s = omega (arith, s.ones_are, class1_count-≤ m.net (path_of m.net l d), length_is)
+-- before the entry at i, at most 23 class 1 steps
+pub ones_room : {net : Net} {l : List ℕ} {i k : ℕ} {t f : Figure} → Known net l → i < length l → Multiplied net t (path_of net (take i l)) k f → k < 24
+ones_room {net} {l} {i} known low s =
+    omega (arith, s.ones_are, class1_count-≤ net (path_of net (take i l)), path_length net (take i l), length-take i l, known.short)

@@ -1,4 +1,4 @@
-// What a death path's lower takes from the path: N', A and the product of the factors, along the steps that an array holds.
+// What a death path's lower takes from the path: N', A and the product of the factors, along the steps that a slice holds.
 ghost use Rattle.std.specs.Prelude.{◌≡◌, ◌+◌, ◌<◌, ◌≤◌, length};
 ghost use Rattle.figure.specs.Operands.{Sized};
 ghost use Rattle.figure.specs.Operations as ops;
@@ -11,7 +11,7 @@ ghost use Rattle.path.specs.Internal.Lent.{Filled, lent};
 ghost use Rattle.path.specs.Internal.Paths.{Known, own_grains, path_of, step_class};
 
 use figure::Figure;
-use model::index::{Index, wide, word_of};
+use model::index::{Index, word_of};
 use tables::class::{Class, class_of, is_class1};
 use tables::table::{Table, factor, grains, mean_up, rate_sum, share};
 use word::fields::{from, is_fast};
@@ -42,31 +42,23 @@ pub(crate) struct Spent {
     pub rates: Figure,
 }
 
-// N' and A of the path that the first `len` entries of `path` are.
-pub(crate) fn spent_on(
-    words: &[u32],
-    index: &Index,
-    table: &Table,
-    path: [u16; 24],
-    len: usize,
-) -> Spent
-    requires { Filled (lent words.now index.now table.now) × Known (net_of words.now) path len }
-    ensures grains_value { result.grains ≡ grain_sum (net_of words.now) (own_grains (net_of words.now)) (path_of (net_of words.now) path len) }
-    ensures rates_value { result.rates ≡ bound.path_rate_sum (net_of words.now) (path_of (net_of words.now) path len) }
+// N' and A of a path.
+pub(crate) fn spent_on(words: &[u32], index: &Index, table: &Table, path: &[u16]) -> Spent
+    requires { Filled (lent words.now index.now table.now) × Known (net_of words.now) path.now }
+    ensures grains_value { result.grains ≡ grain_sum (net_of words.now) (own_grains (net_of words.now)) (path_of (net_of words.now) path.now) }
+    ensures rates_value { result.rates ≡ bound.path_rate_sum (net_of words.now) (path_of (net_of words.now) path.now) }
 {
     let mut n: u64 = 0;
     let mut a = Figure::zero();
-    let mut i = 0;
-    while i < len {
-        let j = wide(path[i]);
+    for &x in path {
+        let j = usize::from(x);
         let step = left_by(words, index, table, j);
         let class = step.class;
         if is_class1(class) {
             a = a.plus_up(rate_sum(table, step.state));
         } else {
-            n = n + grains(table, j);
+            n += grains(table, j);
         }
-        i += 1;
     }
     Spent {
         grains: n,
@@ -79,18 +71,16 @@ pub(crate) fn product(
     words: &[u32],
     index: &Index,
     table: &Table,
-    path: [u16; 24],
-    len: usize,
+    path: &[u16],
     t: Figure,
 ) -> Figure
-    requires { Filled (lent words.now index.now table.now) × Known (net_of words.now) path len × Sized 9 100 t }
-    ensures { result ≡ bound.lower_product (net_of words.now) (own_grains (net_of words.now)) t (path_of (net_of words.now) path len) }
+    requires { Filled (lent words.now index.now table.now) × Known (net_of words.now) path.now × Sized 9 100 t }
+    ensures { result ≡ bound.lower_product (net_of words.now) (own_grains (net_of words.now)) t (path_of (net_of words.now) path.now) }
 {
     let mut p = Figure::of_whole(1);
     let mut k: u64 = 0;
-    let mut i = 0;
-    while i < len {
-        let j = wide(path[i]);
+    for &x in path {
+        let j = usize::from(x);
         let step = left_by(words, index, table, j);
         let class = step.class;
         if is_class1(class) {
@@ -102,7 +92,6 @@ pub(crate) fn product(
         } else {
             p = p.times_down(factor(table, j));
         }
-        i += 1;
     }
     p
 }

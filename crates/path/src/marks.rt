@@ -1,10 +1,9 @@
 // What a path brings to the report's marks: whether no operation that its upper, or its lower, rests on lost anything. They are asked for only while a
 // mark can still be 1, and no longer once it is lost; so the walk's figures tell nothing, and here they are worked out again by the forms that tell.
-ghost use Rattle.std.specs.Prelude.{◌≡◌, ◌∷◌, ◌+◌, ◌<◌, ◌≤◌};
+ghost use Rattle.std.specs.Prelude.{◌≡◌, ◌+◌, ◌<◌, ◌≤◌};
 ghost use Rattle.figure.specs.Operands.{Sized};
 ghost use Rattle.figure.specs.Operations as ops;
 ghost use Rattle.figure.specs.Losses.{told};
-ghost use Rattle.model.specs.Index.{transition};
 ghost use Rattle.tree.specs.States.{mission_time};
 ghost use Rattle.tree.specs.Lower as bound;
 ghost use Rattle.tree.specs.Marks as marks;
@@ -12,14 +11,12 @@ ghost use Rattle.tables.specs.Internal.Classes.{class_for};
 ghost use Rattle.tables.specs.Internal.Described.{net_of};
 ghost use Rattle.path.specs.Internal.Lent.{Filled, lent};
 ghost use Rattle.path.specs.Internal.Paths.{Known, own_grains, path_of};
-ghost use Rattle.path.specs.Internal.Deaths.{LastStep};
 ghost use Rattle.path.specs.Internal.Exits.{upper_by};
 ghost use Rattle.path.specs.Internal.Marks.{upper_by_kept, last_of, one_of, spent_told};
 
-use crate::exits::{Exit, Tip};
 use crate::lower::left_by;
 use figure::{Figure, Rounded};
-use model::index::{Index, wide};
+use model::index::Index;
 use tables::class::{Class, counts_1, is_class1};
 use tables::pack::both;
 use tables::table::{
@@ -64,25 +61,17 @@ fn further_telling(
     }
 }
 
-// The mark of the upper of the path that the first `len` entries of `path` are.
-fn upper_kept(
-    words: &[u32],
-    index: &Index,
-    table: &Table,
-    time: Figure,
-    path: [u16; 24],
-    len: usize,
-) -> bool
-    requires filled { Filled (lent words.now index.now table.now) × Known (net_of words.now) path len }
+// The mark of the upper of a path.
+pub fn upper_kept(words: &[u32], index: &Index, table: &Table, time: Figure, path: &[u16]) -> bool
+    requires filled { Filled (lent words.now index.now table.now) × Known (net_of words.now) path.now }
     requires time_value { time ≡ mission_time (net_of words.now) }
-    ensures { result ≡ marks.upper_kept (net_of words.now) (path_of (net_of words.now) path len) }
+    ensures { result ≡ marks.upper_kept (net_of words.now) (path_of (net_of words.now) path.now) }
 {
     let mut u = Figure::of_whole(1);
     let mut k: u64 = 0;
     let mut kept = true;
-    let mut i = 0;
-    while i < len {
-        let j = wide(path[i]);
+    for &x in path {
+        let j = usize::from(x);
         let step = left_by(words, index, table, j);
         let class = step.class;
         let s = step.state;
@@ -98,8 +87,7 @@ fn upper_kept(
         );
         kept = both(next.kept, kept);
         u = next.figure;
-        k = k + counts_1(class);
-        i += 1;
+        k += counts_1(class);
     }
     kept
 }
@@ -116,25 +104,18 @@ struct SpentTold {
     pub ones: u64,
 }
 
-// Those of the path that the first `len` entries of `path` are.
-fn spent_telling(
-    words: &[u32],
-    index: &Index,
-    table: &Table,
-    path: [u16; 24],
-    len: usize,
-) -> SpentTold
-    requires { Filled (lent words.now index.now table.now) × Known (net_of words.now) path len }
-    ensures { result ≡ spent_told (net_of words.now) (path_of (net_of words.now) path len) }
+// Those of a path.
+fn spent_telling(words: &[u32], index: &Index, table: &Table, path: &[u16]) -> SpentTold
+    requires { Filled (lent words.now index.now table.now) × Known (net_of words.now) path.now }
+    ensures { result ≡ spent_told (net_of words.now) (path_of (net_of words.now) path.now) }
 {
     let mut n: u64 = 0;
     let mut n_kept = true;
     let mut a = Figure::zero();
     let mut a_kept = true;
     let mut k: u64 = 0;
-    let mut i = 0;
-    while i < len {
-        let j = wide(path[i]);
+    for &x in path {
+        let j = usize::from(x);
         let step = left_by(words, index, table, j);
         let class = step.class;
         let s = step.state;
@@ -144,10 +125,9 @@ fn spent_telling(
             a_kept = both(both(rate_sum_kept(table, s), more.kept), a_kept);
             k += 1;
         } else {
-            n = n + grains(table, j);
+            n += grains(table, j);
             n_kept = both(grains_kept(table, j), n_kept);
         }
-        i += 1;
     }
     SpentTold {
         grains: n,
@@ -174,24 +154,16 @@ fn one_telling(p: Figure, rate: Figure, t: Figure, nth: Figure) -> Rounded
 }
 
 // The product of a path's factors, t being down(t), with its mark.
-fn product_telling(
-    words: &[u32],
-    index: &Index,
-    table: &Table,
-    path: [u16; 24],
-    len: usize,
-    t: Figure,
-) -> Rounded
-    requires { Filled (lent words.now index.now table.now) × Known (net_of words.now) path len × Sized 9 100 t }
-    ensures figure_value { result.figure ≡ bound.lower_product (net_of words.now) (own_grains (net_of words.now)) t (path_of (net_of words.now) path len) }
-    ensures kept_value { result.kept ≡ marks.lower_product_kept (net_of words.now) (own_grains (net_of words.now)) t (path_of (net_of words.now) path len) }
+fn product_telling(words: &[u32], index: &Index, table: &Table, path: &[u16], t: Figure) -> Rounded
+    requires { Filled (lent words.now index.now table.now) × Known (net_of words.now) path.now × Sized 9 100 t }
+    ensures figure_value { result.figure ≡ bound.lower_product (net_of words.now) (own_grains (net_of words.now)) t (path_of (net_of words.now) path.now) }
+    ensures kept_value { result.kept ≡ marks.lower_product_kept (net_of words.now) (own_grains (net_of words.now)) t (path_of (net_of words.now) path.now) }
 {
     let mut p = Figure::of_whole(1);
     let mut kept = true;
     let mut k: u64 = 0;
-    let mut i = 0;
-    while i < len {
-        let j = wide(path[i]);
+    for &x in path {
+        let j = usize::from(x);
         let step = left_by(words, index, table, j);
         let class = step.class;
         if is_class1(class) {
@@ -204,7 +176,6 @@ fn product_telling(
             p = next.figure;
             kept = both(both(factor_kept(table, j), next.kept), kept);
         }
-        i += 1;
     }
     Rounded { figure: p, kept }
 }
@@ -223,20 +194,13 @@ fn last_telling(above: Figure, rates: Figure, k: u64) -> Rounded
     Rounded { figure, kept }
 }
 
-// The mark of the lower of the path that the first `len` entries of `path` are.
-fn lower_kept(
-    words: &[u32],
-    index: &Index,
-    table: &Table,
-    time: Figure,
-    path: [u16; 24],
-    len: usize,
-) -> bool
-    requires filled { Filled (lent words.now index.now table.now) × Known (net_of words.now) path len }
+// The mark of the lower of a path.
+pub fn lower_kept(words: &[u32], index: &Index, table: &Table, time: Figure, path: &[u16]) -> bool
+    requires filled { Filled (lent words.now index.now table.now) × Known (net_of words.now) path.now }
     requires time_value { time ≡ mission_time (net_of words.now) }
-    ensures { result ≡ marks.lower_kept (net_of words.now) (path_of (net_of words.now) path len) }
+    ensures { result ≡ marks.lower_kept (net_of words.now) (path_of (net_of words.now) path.now) }
 {
-    let spent = spent_telling(words, index, table, path, len);
+    let spent = spent_telling(words, index, table, path);
     if 1_000_000 <= spent.grains {
         return spent.grains_kept;
     }
@@ -244,7 +208,7 @@ fn lower_kept(
     let below = time.times_down_telling(rest);
     let t = below.figure;
     let above = time.times_up(rest).times_ten(0 - 6);
-    let p = product_telling(words, index, table, path, len, t.times_ten(0 - 6));
+    let p = product_telling(words, index, table, path, t.times_ten(0 - 6));
     let rates = spent.rates;
     let last = last_telling(above, rates, spent.ones);
     let f = p.figure;
@@ -254,44 +218,4 @@ fn lower_kept(
         lower.kept,
     );
     both(spent.grains_kept, both(p.kept, after))
-}
-
-// ---- a path that an exit ends
-
-// The mark of the upper of the path that ends at the tip, with `exit` after it.
-pub fn ended_upper_kept(
-    words: &[u32],
-    index: &Index,
-    table: &Table,
-    time: Figure,
-    path: [u16; 24],
-    tip: Tip,
-    exit: Exit,
-) -> bool
-    requires { LastStep (lent words.now index.now table.now) time path tip exit }
-    ensures { result ≡ marks.upper_kept (net_of words.now) (transition (net_of words.now) exit.index ∷ path_of (net_of words.now) path tip.len) }
-{
-    let mut whole = path;
-    let len = tip.len;
-    whole[len] = exit.index;
-    upper_kept(words, index, table, time, whole, len + 1)
-}
-
-// The mark of its lower, if it is a death path.
-pub fn ended_lower_kept(
-    words: &[u32],
-    index: &Index,
-    table: &Table,
-    time: Figure,
-    path: [u16; 24],
-    tip: Tip,
-    exit: Exit,
-) -> bool
-    requires { LastStep (lent words.now index.now table.now) time path tip exit }
-    ensures { result ≡ marks.lower_kept (net_of words.now) (transition (net_of words.now) exit.index ∷ path_of (net_of words.now) path tip.len) }
-{
-    let mut whole = path;
-    let len = tip.len;
-    whole[len] = exit.index;
-    lower_kept(words, index, table, time, whole, len + 1)
 }

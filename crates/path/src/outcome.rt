@@ -8,7 +8,7 @@ use figure::Figure;
 use model::index::{Index, is_named};
 
 // What becomes of a path, with its reason.
-#[derive(Clone, Copy)]
+#[derive(Clone, Copy, PartialEq, Eq)]
 pub enum Outcome {
     GeneratorsState,
     Death,
@@ -23,10 +23,7 @@ pub fn is_named_end(index: &Index, s: usize, exits: usize) -> bool
     requires { s ≤ 1000 }
     ensures { result ≡ named_end index.now s exits }
 {
-    if exits == 0 {
-        return is_named(index, s);
-    }
-    false
+    exits == 0 && is_named(index, s)
 }
 
 // What becomes of a path: by whether its last state is one of the generator's, the number of exits of that state, how often it was entered before, the
@@ -61,28 +58,16 @@ pub fn judge(
     Outcome::Continued
 }
 
-pub fn is_death(o: Outcome) -> bool
-    ensures { result ≡ tree.is_death (outcome_of o) }
-{
-    match o {
-        Outcome::GeneratorsState => false,
-        Outcome::Death => true,
-        Outcome::EnteredTooOften => false,
-        Outcome::StepLimit => false,
-        Outcome::LowLevel => false,
-        Outcome::Continued => false,
+impl Outcome {
+    pub fn is_death(self) -> bool
+        ensures { result ≡ tree.is_death (outcome_of self) }
+    {
+        self == Outcome::Death
     }
-}
 
-pub fn is_continued(o: Outcome) -> bool
-    ensures { result ≡ tree.is_continued (outcome_of o) }
-{
-    match o {
-        Outcome::GeneratorsState => false,
-        Outcome::Death => false,
-        Outcome::EnteredTooOften => false,
-        Outcome::StepLimit => false,
-        Outcome::LowLevel => false,
-        Outcome::Continued => true,
+    pub fn is_continued(self) -> bool
+        ensures { result ≡ tree.is_continued (outcome_of self) }
+    {
+        self == Outcome::Continued
     }
 }

@@ -1,6 +1,6 @@
 -- The lower of a death path in two parts: its stem, which the deaths share that leave one state by one class, and what each adds. Assumes nothing:
 -- these are definitions.
-use Rattle.std.specs.Prelude.{ℕ, ◌+◌, ◌<◌, ◌≡◌, Bool, true, false, List, length, leb, eqb}
+use Rattle.std.specs.Prelude.{ℕ, ◌+◌, ◌<◌, ◌≡◌, true, false, List, length, leb, Option, None, Some, IfSome}
 use Rattle.figure.specs.declared.Figure.{Figure}
 use Rattle.figure.specs.Rounding.{none, up, down}
 use Rattle.figure.specs.Operands.{Sized}
@@ -23,9 +23,9 @@ use Rattle.path.specs.Internal.Paths.{path_of, Known, own_grains, step_class}
 pub record LastStep (l : Lent) (time : Figure) (path : List ℕ) (tip : Tip) (exit : Exit) : Type 0 where
   pub filled : Filled l
   pub time_is : time ≡ mission_time (net_in l)
-  pub known : Known (net_in l) path tip.len
-  pub room : tip.len < 24
-  pub ones_are : tip.ones ≡ class1_count (net_in l) (path_of (net_in l) path tip.len)
+  pub known : Known (net_in l) path
+  pub room : length path < 24
+  pub ones_are : tip.ones ≡ class1_count (net_in l) (path_of (net_in l) path)
   pub index : exit.index < length (net_in l).table
   pub class_is : class_for exit.class ≡ step_class (net_in l) exit.index
   pub leaves : tip.state ≡ (transition (net_in l) exit.index).from
@@ -36,33 +36,38 @@ pub record LastStep (l : Lent) (time : Figure) (path : List ℕ) (tip : Tip) (ex
 unfoldable pub last_by : Net → ℕ → Figure → ℕ → Figure
 last_by net n a k = minus_down (of_whole 1) (divided_up (times_up (up 9 (remaining_time net n)) a) (of_whole (k + 1)))
 
-abbrev pub is_filled : Stem → Bool
-is_filled c = eqb c.filled 1
-
--- the stem of the deaths whose path is p up to the last step, with n grains in all, A and k
-pub record StemAt (net : Net) (p : Path) (n : ℕ) (a : Figure) (k : ℕ) (c : Stem) : Type 0 where
-  pub filled_is : is_filled c ≡ leb 1000000 n
-  pub time_is : is_filled c ≡ false → c.time ≡ down 9 (remaining_time net n)
-  pub product_is : is_filled c ≡ false → c.product ≡ lower_product net (own_grains net) (down 9 (remaining_time net n)) p
-  pub last_is : is_filled c ≡ false → c.last ≡ last_by net n a k
+-- the stem of the deaths whose path is p up to the last step, with n grains in all, A and k; there is none where these grains fill the mission time
+unfoldable pub stem_at : Net → Path → ℕ → Figure → ℕ → Option Stem
+stem_at net p n a k =
+    elim (leb 1000000 n) [
+      | true ↦ None
+      | false ↦ Some (record {
+        time = down 9 (remaining_time net n);
+        product = lower_product net (own_grains net) (down 9 (remaining_time net n)) p;
+        last = last_by net n a k;
+      })
+    ]
 
 -- the same by the class of the last step, its own grains g and the state s that it leaves
-abbrev pub StemBy : Net → Path → Class → ℕ → ℕ → Stem → Type 0
-StemBy net p x g s c = StemAt net p (grains_in x g + grain_sum net (own_grains net) p) (add_rates x (path_rate_sum net p) (rate_sum net s)) (counts_1 x + class1_count net p) c
+abbrev pub stem_by : Net → Path → Class → ℕ → ℕ → Option Stem
+stem_by net p x g s = stem_at net p (grains_in x g + grain_sum net (own_grains net) p) (add_rates x (path_rate_sum net p) (rate_sum net s)) (counts_1 x + class1_count net p)
 
 -- that of the last step t from the state s
-abbrev pub StemOf : Net → Path → Transition → ℕ → Stem → Type 0
-StemOf net p t s c = StemBy net p (class net t) (own_grains net t) s c
+abbrev pub stem_of : Net → Path → Transition → ℕ → Option Stem
+stem_of net p t s = stem_by net p (class net t) (own_grains net t) s
 
 -- that of an exit of the tip's state, after the path that ends at the tip
-abbrev pub StemFor : Net → List ℕ → Tip → Exit → Stem → Type 0
-StemFor net path tip exit c = StemOf net (path_of net path tip.len) (transition net exit.index) tip.state c
+abbrev pub stem_for : Net → List ℕ → Tip → Exit → Option Stem
+stem_for net path tip exit = stem_of net (path_of net path) (transition net exit.index) tip.state
 
--- the figures of a stem are in range
+-- the figures of a stem, where there is one, are in range
 pub record StemSized (c : Stem) : Type 0 where
   pub time : Sized 9 100 c.time
   pub product : Sized 9 30000 c.product
   pub last : Sized 9 2000 c.last
+
+abbrev pub AnyStemSized : Option Stem → Type 0
+AnyStemSized c = IfSome c StemSized
 
 -- ---- the cache
 
@@ -73,17 +78,18 @@ slow_class net s = elim (has_fast (exits net s)) [ true ↦ class3 | false ↦ c
 unfoldable pub slow_grains : Net → ℕ → ℕ
 slow_grains net s = elim (has_fast (exits net s)) [ true ↦ class3_grains net s | false ↦ 0 ]
 
--- where a cache is known, it has the stem of the deaths that leave s by a slow exit after the path p
+-- where something is known, it is the stem of the deaths that leave s by a slow exit after the path p
 pub record Cached (net : Net) (p : Path) (s : ℕ) (c : Cache) : Type 0 where
-  pub stem_is : c.known ≡ 1 → StemBy net p (slow_class net s) (slow_grains net s) s c.stem
-  pub sized : StemSized c.stem
+  pub stem_is : (k : Option Stem) → c.slow ≡ Some k → k ≡ stem_by net p (slow_class net s) (slow_grains net s) s
+  pub sized : (k : Option Stem) → c.slow ≡ Some k → AnyStemSized k
 
 -- ---- one death
 
 -- the lower of a death path: by its last step's class, with that step's share and factor; n is its number among class 1 steps if it is one
-unfoldable pub death_lower : Stem → Class → Figure → Figure → Figure → Figure
-death_lower c x s f n =
-    elim (is_filled c) [
-      | true ↦ none
-      | false ↦ elim (is_class1 x) [ true ↦ times_down (divided_down (times_down (times_down c.product s) c.time) n) c.last | false ↦ times_down (times_down c.product f) c.last ]
+unfoldable pub death_lower : Option Stem → Class → Figure → Figure → Figure → Figure
+death_lower None x s f n = none
+death_lower (Some c) x s f n =
+    elim (is_class1 x) [
+      | true ↦ times_down (divided_down (times_down (times_down c.product s) c.time) n) c.last
+      | false ↦ times_down (times_down c.product f) c.last
     ]

@@ -1,19 +1,18 @@
--- A path as an array holds it. Assumes nothing: these are definitions.
-use Rattle.std.specs.Prelude.{ℕ, zero, suc, ◌≤◌, ◌<◌, List, [], ◌∷◌, length, get_or}
+-- A path as a slice holds it. Assumes nothing: these are definitions.
+use Rattle.std.specs.Prelude.{ℕ, ◌≤◌, ◌<◌, List, [], length, map, reverse, All}
 use Rattle.word.specs.Model.{Transition, Net}
 use Rattle.model.specs.Index.{transition}
 use Rattle.tree.specs.Paths.{Path, Class, class}
 use Rattle.tree.specs.Grains.{grains}
 
--- the path that the first d entries of an array are: indexes of transitions, the first step at 0
-unfoldable pub path_of : Net → List ℕ → ℕ → Path
-path_of net l zero = []
-path_of net l (suc d) = transition net (get_or l d 0) ∷ path_of net l d
+-- the path whose steps are the entries of a list: indexes of transitions, the first step first
+unfoldable pub path_of : Net → List ℕ → Path
+path_of net l = reverse (map (transition net) l)
 
--- the first d entries are indexes of transitions
-pub record Known (net : Net) (l : List ℕ) (d : ℕ) : Type 0 where
-  pub short : d ≤ 24
-  pub inside : (i : ℕ) → i < d → get_or l i 0 < length net.table
+-- the entries are indexes of transitions, of at most 24 steps
+pub record Known (net : Net) (l : List ℕ) : Type 0 where
+  pub short : length l ≤ 24
+  pub inside : All (λ (j : ℕ). j < length net.table) l
 
 -- grains are those of edition 1, which do not depend on the path
 abbrev pub own_grains : Net → Transition → ℕ

@@ -8,79 +8,53 @@ use Rattle.tables.specs.Internal.Tables.{grain_count_in}
 use Rattle.path.specs.Internal.Lent.{lent}
 use Rattle.path.specs.Internal.Paths.{path_of}
 use Rattle.path.specs.Internal.Deaths.{LastStep}
-use Rattle.path.proofs.PathSums.{SpentOn}
+use Rattle.path.proofs.PathSums.{spent_of}
 use Rattle.path.proofs.PathSteps.{state_held_small, rate_held, rate_held_sized, grains_held, grains_held_high}
 use Rattle.path.proofs.DeathStems.{ones_high, so_far_sized, so_far_high, stem_one, stem_other}
 use Rattle.path.proofs.deaths.new_stem.Goals as goal
 
 pub rate_sum-requires : goal.rate_sum-requires
 rate_sum-requires c =
-    let last : LastStep (lent c.args.words.now c.args.index.now c.args.table.now) c.args.time c.args.path c.args.tip c.args.exit = c.requires in
-    let h = last in state_held_small h.filled h.index h.leaves
+    let h = c.requires in state_held_small h.filled h.index h.leaves
 
 pub plus_up-more-requires : goal.plus_up-more-requires
 plus_up-more-requires c =
-    let last : LastStep (lent c.args.words.now c.args.index.now c.args.table.now) c.args.time c.args.path c.args.tip c.args.exit = c.requires in
-    let so_far : SpentOn (net_of c.args.words.now) (path_of (net_of c.args.words.now) c.args.path c.args.tip.len) c.spent_on-so_far.result.grains
-    c.spent_on-so_far.result.rates = record { grains_are = c.spent_on-so_far.ensures.grains_value; rates_are = c.spent_on-so_far.ensures.rates_value } in
-    let h = last in (sized-≤ (lit≤ tt) (so_far_sized h so_far), sized-≤ (lit≤ tt) (rate_held_sized h.filled h.index h.leaves c.rate_sum.ensures))
+    let so_far = spent_of c.spent_on-so_far.ensures.grains_value c.spent_on-so_far.ensures.rates_value in
+    let h = c.requires in (sized-≤ (lit≤ tt) (so_far_sized h so_far), sized-≤ (lit≤ tt) (rate_held_sized h.filled h.index h.leaves c.rate_sum.ensures))
 
 pub overflow_add-ones : goal.overflow_add-ones
 overflow_add-ones c =
-    let last : LastStep (lent c.args.words.now c.args.index.now c.args.table.now) c.args.time c.args.path c.args.tip c.args.exit = c.requires in
-    omega (arith, ones_high last)
+    omega (arith, ones_high c.requires)
 
-pub stem_of_sums-requires : goal.stem_of_sums-requires
-stem_of_sums-requires c =
-    let last : LastStep (lent c.args.words.now c.args.index.now c.args.table.now) c.args.time c.args.path c.args.tip c.args.exit = c.requires in
-    let so_far : SpentOn (net_of c.args.words.now) (path_of (net_of c.args.words.now) c.args.path c.args.tip.len) c.spent_on-so_far.result.grains
-    c.spent_on-so_far.result.rates = record { grains_are = c.spent_on-so_far.ensures.grains_value; rates_are = c.spent_on-so_far.ensures.rates_value } in
-    let h = last in record {
-      filled = (h.filled, h.known);
-      time_value = (
-        h.time_is,
-        rw c.plus_up-more.ensures (plus_up_sized (so_far_sized h so_far) (rate_held_sized h.filled h.index h.leaves c.rate_sum.ensures)),
-        omega (arith, ones_high h),
-      );
-    }
+pub stem_of_sums-requires-clause-time_value : goal.stem_of_sums-requires-clause-time_value
+stem_of_sums-requires-clause-time_value c =
+    let so_far = spent_of c.spent_on-so_far.ensures.grains_value c.spent_on-so_far.ensures.rates_value in
+    let h = c.requires in (
+      h.time_is,
+      rw c.plus_up-more.ensures (plus_up_sized (so_far_sized h so_far) (rate_held_sized h.filled h.index h.leaves c.rate_sum.ensures)),
+      omega (arith, ones_high h),
+    )
 
-pub returns-then-is_class1 : goal.returns-then-is_class1
-returns-then-is_class1 c =
-    let last : LastStep (lent c.args.words.now c.args.index.now c.args.table.now) c.args.time c.args.path c.args.tip c.args.exit = c.requires in
-    let so_far : SpentOn (net_of c.args.words.now) (path_of (net_of c.args.words.now) c.args.path c.args.tip.len) c.spent_on-so_far.result.grains
-    c.spent_on-so_far.result.rates = record { grains_are = c.spent_on-so_far.ensures.grains_value; rates_are = c.spent_on-so_far.ensures.rates_value } in
-    let h = last in record {
-      stem_for = stem_one h so_far c.is_class1.ensures c.if-is_class1.true
-          (rate_held h.filled h.index h.leaves c.rate_sum.ensures) c.plus_up-more.ensures c.stem_of_sums.ensures.stem_at;
-      stem_sized =
-          c.stem_of_sums.ensures.stem_sized;
-    }
+pub returns-then-is_class1-clause-stem_is : goal.returns-then-is_class1-clause-stem_is
+returns-then-is_class1-clause-stem_is c =
+    let so_far = spent_of c.spent_on-so_far.ensures.grains_value c.spent_on-so_far.ensures.rates_value in
+    let h = c.requires in stem_one h so_far c.is_class1.ensures c.if-is_class1.true
+    (rate_held h.filled h.index h.leaves c.rate_sum.ensures) c.plus_up-more.ensures c.stem_of_sums.ensures.stem_is
 
 pub overflow_add-all : goal.overflow_add-all
 overflow_add-all c =
-    let grains_are : c.grains.result ≡ grain_count_in c.args.table.now c.args.exit.index = c.grains.ensures
-    ∙ ap (grain_count_in c.args.table.now) c.wide.ensures.0 in
-    let last : LastStep (lent c.args.words.now c.args.index.now c.args.table.now) c.args.time c.args.path c.args.tip c.args.exit = c.requires in
-    let so_far : SpentOn (net_of c.args.words.now) (path_of (net_of c.args.words.now) c.args.path c.args.tip.len) c.spent_on-so_far.result.grains
-    c.spent_on-so_far.result.rates = record { grains_are = c.spent_on-so_far.ensures.grains_value; rates_are = c.spent_on-so_far.ensures.rates_value } in
-    let h = last in omega (arith, grains_held_high h.filled h.index grains_are, so_far_high h so_far)
+    let grains_are = rw c.from.ensures at c.grains.ensures in
+    let so_far = spent_of c.spent_on-so_far.ensures.grains_value c.spent_on-so_far.ensures.rates_value in
+    let h = c.requires in omega (arith, grains_held_high h.filled h.index grains_are, so_far_high h so_far)
 
-pub stem_of_sums-requires-2 : goal.stem_of_sums-requires-2
-stem_of_sums-requires-2 c =
-    let last : LastStep (lent c.args.words.now c.args.index.now c.args.table.now) c.args.time c.args.path c.args.tip c.args.exit = c.requires in
-    let so_far : SpentOn (net_of c.args.words.now) (path_of (net_of c.args.words.now) c.args.path c.args.tip.len) c.spent_on-so_far.result.grains
-    c.spent_on-so_far.result.rates = record { grains_are = c.spent_on-so_far.ensures.grains_value; rates_are = c.spent_on-so_far.ensures.rates_value } in
-    let h = last in record { filled = (h.filled, h.known); time_value = (h.time_is, sized-≤ (lit≤ tt) (so_far_sized h so_far), omega (arith, ones_high h)) }
+pub stem_of_sums-requires-2-clause-time_value : goal.stem_of_sums-requires-2-clause-time_value
+stem_of_sums-requires-2-clause-time_value c =
+    let so_far = spent_of c.spent_on-so_far.ensures.grains_value c.spent_on-so_far.ensures.rates_value in
+    let h = c.requires in (h.time_is, sized-≤ (lit≤ tt) (so_far_sized h so_far), omega (arith, ones_high h))
 
-pub returns : goal.returns
-returns c =
-    let grains_are : c.grains.result ≡ grain_count_in c.args.table.now c.args.exit.index = c.grains.ensures
-    ∙ ap (grain_count_in c.args.table.now) c.wide.ensures.0 in
-    let last : LastStep (lent c.args.words.now c.args.index.now c.args.table.now) c.args.time c.args.path c.args.tip c.args.exit = c.requires in
-    let so_far : SpentOn (net_of c.args.words.now) (path_of (net_of c.args.words.now) c.args.path c.args.tip.len) c.spent_on-so_far.result.grains
-    c.spent_on-so_far.result.rates = record { grains_are = c.spent_on-so_far.ensures.grains_value; rates_are = c.spent_on-so_far.ensures.rates_value } in
-    let h = last in record {
-      stem_for = stem_other h so_far c.is_class1.ensures c.if-is_class1.false
-          (grains_held h.filled h.index grains_are) c.stem_of_sums-2.ensures.stem_at;
-      stem_sized = c.stem_of_sums-2.ensures.stem_sized;
-    }
+pub returns-clause-stem_is : goal.returns-clause-stem_is
+returns-clause-stem_is c =
+    let grains_are = rw c.from.ensures at c.grains.ensures in
+    let so_far = spent_of c.spent_on-so_far.ensures.grains_value c.spent_on-so_far.ensures.rates_value in
+    let h = c.requires in stem_other h so_far c.is_class1.ensures c.if-is_class1.false
+    (grains_held h.filled h.index grains_are) c.stem_of_sums-2.ensures.stem_is

@@ -12,11 +12,12 @@ use Rattle.tree.specs.States.{mission_time}
 use Rattle.tree.proofs.RemainingTime.{remaining_time_down, remaining_time_up}
 use Rattle.tree.proofs.Ranges.{count_sized, mission_time_sized, time_down_sized, time_up_sized}
 use Rattle.tables.specs.Internal.Described.{net_of}
+use Rattle.path.specs.Internal.Paths.{path_of}
 use Rattle.path.proofs.DeathStems.{scaled, stem_full, stem_rest, stem_sized}
 use Rattle.path.proofs.deaths.stem_of_sums.Goals as goal
 
-pub returns-then-n-ge1000000 : goal.returns-then-n-ge1000000
-returns-then-n-ge1000000 c = record { stem_at = stem_full c.filled_stem.ensures.0 c.if-n-ge1000000.true; stem_sized = c.filled_stem.ensures.1 }
+pub returns-then-n-ge1000000-clause-stem_is : goal.returns-then-n-ge1000000-clause-stem_is
+returns-then-n-ge1000000-clause-stem_is c = stem_full _ _ _ _ _ c.if-n-ge1000000.true
 
 pub times_down-requires : goal.times_down-requires
 times_down-requires c =
@@ -65,9 +66,9 @@ returns c =
     let up_is : c.times_ten-above.result ≡ times_ten (times_up (mission_time (net_of c.args.words.now)) (of_whole (1000000 - c.args.n))) (negsuc 5) =
     scaled times_up (negsuc 5) c.times_ten-above.ensures c.times_up.ensures c.requires.time_value.0 c.of_whole-rest.ensures in
     let inside : c.args.n < 1000000 = omega (arith, c.if-n-ge1000000.false) in let stem =
-    stem_rest c.requires.filled.0.indexes.valid inside refl down_is up_is c.product-p.ensures c.last_factor-last.ensures in
+    stem_rest c.requires.filled.0.indexes.valid inside (path_of (net_of c.args.words.now) c.args.path.now) c.args.rates c.args.ones down_is up_is c.product-p.ensures c.last_factor-last.ensures in
     record {
-      stem_at = stem;
+      stem_is = stem;
       stem_sized = stem_sized c.requires.filled.0.indexes.valid inside c.requires.filled.1 c.requires.time_value.1
-          c.requires.time_value.2 refl stem;
+          c.requires.time_value.2 stem;
     }

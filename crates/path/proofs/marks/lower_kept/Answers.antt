@@ -20,7 +20,7 @@ returns-then-spent-ge1000000 c = lower_full _ _ c.spent_telling-spent.ensures c.
 pub times_down_telling-below-requires : goal.times_down_telling-below-requires
 times_down_telling-below-requires c =
     let valid : Valid (described c.args.words.now) = c.requires.filled.0.indexes.valid in
-    let known : Known (net_of c.args.words.now) c.args.path c.args.len = c.requires.filled.1 in
+    let known : Known (net_of c.args.words.now) c.args.path.now = c.requires.filled.1 in
     let inside : c.spent_telling-spent.result.grains < 1000000 = c.if-spent-ge1000000.false in
     let time_fine : Sized 9 40 c.args.time = time_sized valid known c.spent_telling-spent.ensures inside c.requires.time_value c.of_whole-rest.ensures in
     let left_fine : Sized 9 20 c.of_whole-rest.result = left_sized valid known c.spent_telling-spent.ensures inside c.requires.time_value
@@ -30,7 +30,7 @@ times_down_telling-below-requires c =
 pub times_up-requires : goal.times_up-requires
 times_up-requires c =
     let valid : Valid (described c.args.words.now) = c.requires.filled.0.indexes.valid in
-    let known : Known (net_of c.args.words.now) c.args.path c.args.len = c.requires.filled.1 in
+    let known : Known (net_of c.args.words.now) c.args.path.now = c.requires.filled.1 in
     let inside : c.spent_telling-spent.result.grains < 1000000 = c.if-spent-ge1000000.false in
     let time_fine : Sized 9 40 c.args.time = time_sized valid known c.spent_telling-spent.ensures inside c.requires.time_value c.of_whole-rest.ensures in
     let left_fine : Sized 9 20 c.of_whole-rest.result = left_sized valid known c.spent_telling-spent.ensures inside c.requires.time_value
@@ -40,7 +40,7 @@ times_up-requires c =
 pub times_ten-above-requires : goal.times_ten-above-requires
 times_ten-above-requires c =
     let valid : Valid (described c.args.words.now) = c.requires.filled.0.indexes.valid in
-    let known : Known (net_of c.args.words.now) c.args.path c.args.len = c.requires.filled.1 in
+    let known : Known (net_of c.args.words.now) c.args.path.now = c.requires.filled.1 in
     let inside : c.spent_telling-spent.result.grains < 1000000 = c.if-spent-ge1000000.false in
     let time_fine : Sized 9 40 c.args.time = time_sized valid known c.spent_telling-spent.ensures inside c.requires.time_value c.of_whole-rest.ensures in
     let left_fine : Sized 9 20 c.of_whole-rest.result = left_sized valid known c.spent_telling-spent.ensures inside c.requires.time_value
@@ -50,7 +50,7 @@ times_ten-above-requires c =
 pub times_ten-requires : goal.times_ten-requires
 times_ten-requires c =
     let valid : Valid (described c.args.words.now) = c.requires.filled.0.indexes.valid in
-    let known : Known (net_of c.args.words.now) c.args.path c.args.len = c.requires.filled.1 in
+    let known : Known (net_of c.args.words.now) c.args.path.now = c.requires.filled.1 in
     let inside : c.spent_telling-spent.result.grains < 1000000 = c.if-spent-ge1000000.false in
     let time_fine : Sized 9 40 c.args.time = time_sized valid known c.spent_telling-spent.ensures inside c.requires.time_value c.of_whole-rest.ensures in
     let left_fine : Sized 9 20 c.of_whole-rest.result = left_sized valid known c.spent_telling-spent.ensures inside c.requires.time_value
@@ -62,7 +62,7 @@ product_telling-p-requires c =
     let above_is : c.times_ten-above.result ≡ times_ten (times_up c.args.time c.of_whole-rest.result) (negsuc 5) =
     rw c.times_up.ensures at c.times_ten-above.ensures in
     let valid : Valid (described c.args.words.now) = c.requires.filled.0.indexes.valid in
-    let known : Known (net_of c.args.words.now) c.args.path c.args.len = c.requires.filled.1 in
+    let known : Known (net_of c.args.words.now) c.args.path.now = c.requires.filled.1 in
     let inside : c.spent_telling-spent.result.grains < 1000000 = c.if-spent-ge1000000.false in
     let below_fine : Sized 9 100 c.times_ten.result = down_sized valid known c.spent_telling-spent.ensures inside c.requires.time_value
     c.of_whole-rest.ensures c.times_down_telling-below.ensures c.times_ten.ensures above_is in
@@ -73,7 +73,7 @@ last_telling-last-requires c =
     let above_is : c.times_ten-above.result ≡ times_ten (times_up c.args.time c.of_whole-rest.result) (negsuc 5) =
     rw c.times_up.ensures at c.times_ten-above.ensures in
     let valid : Valid (described c.args.words.now) = c.requires.filled.0.indexes.valid in
-    let known : Known (net_of c.args.words.now) c.args.path c.args.len = c.requires.filled.1 in
+    let known : Known (net_of c.args.words.now) c.args.path.now = c.requires.filled.1 in
     let inside : c.spent_telling-spent.result.grains < 1000000 = c.if-spent-ge1000000.false in
     let above_fine : Sized 9 100 c.times_ten-above.result = up_sized valid known c.spent_telling-spent.ensures inside c.requires.time_value
     c.of_whole-rest.ensures c.times_down_telling-below.ensures c.times_ten.ensures above_is in
@@ -84,7 +84,7 @@ times_down_telling-lower-requires c =
     let above_is : c.times_ten-above.result ≡ times_ten (times_up c.args.time c.of_whole-rest.result) (negsuc 5) =
     rw c.times_up.ensures at c.times_ten-above.ensures in
     let valid : Valid (described c.args.words.now) = c.requires.filled.0.indexes.valid in
-    let known : Known (net_of c.args.words.now) c.args.path c.args.len = c.requires.filled.1 in
+    let known : Known (net_of c.args.words.now) c.args.path.now = c.requires.filled.1 in
     let inside : c.spent_telling-spent.result.grains < 1000000 = c.if-spent-ge1000000.false in (
       sized-≤ (lit≤ tt) (product_sized valid known c.spent_telling-spent.ensures inside c.requires.time_value c.of_whole-rest.ensures
           c.times_down_telling-below.ensures c.times_ten.ensures above_is c.product_telling-p.ensures.figure_value c.product_telling-p.ensures.kept_value
@@ -99,7 +99,7 @@ returns c =
     let above_is : c.times_ten-above.result ≡ times_ten (times_up c.args.time c.of_whole-rest.result) (negsuc 5) =
     rw c.times_up.ensures at c.times_ten-above.ensures in
     let valid : Valid (described c.args.words.now) = c.requires.filled.0.indexes.valid in
-    let known : Known (net_of c.args.words.now) c.args.path c.args.len = c.requires.filled.1 in
+    let known : Known (net_of c.args.words.now) c.args.path.now = c.requires.filled.1 in
     let inside : c.spent_telling-spent.result.grains < 1000000 = c.if-spent-ge1000000.false in
     lower_made valid known c.spent_telling-spent.ensures inside c.requires.time_value c.of_whole-rest.ensures c.times_down_telling-below.ensures
     c.times_ten.ensures above_is c.product_telling-p.ensures.figure_value c.product_telling-p.ensures.kept_value c.last_telling-last.ensures
