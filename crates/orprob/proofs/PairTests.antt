@@ -10,8 +10,7 @@ use lib.Dec.{T, lit≤}
 use lib.IntN.{ℤ, pos, negsuc}
 use lib.Signed.{le_z, lt_z, ◌≤ℤ◌, le_z_yes}
 use mir.Syntax.{w32}
-use mir.Val.{SFits, to_z, of_z}
-use mir.Facts.{to_z-of_z}
+use mir.Val.{to_z, of_z}
 use borrow.Author.Tests.{ltb-true, ltb-false, le-leb, lt-leb}
 use Rattle.fraction.specs.Fraction.{◌≤ᶠ◌, whole, at_most}
 use Rattle.fraction.proofs.Laws.{≤ᶠ_trans, at_most_iff, ≈ᶠ-≤, ≈ᶠ-≥}
@@ -76,20 +75,6 @@ inside_holds : (p : ℤ) → negsuc 1999 ≤ℤ p → p ≤ℤ pos 2000 → powe
 unfolding power_inside
 inside_holds p l h = rw (holds (le_z (negsuc 1999) p) l.le, holds (le_z p (pos 2000)) h.le)
 
--- ---- the test of a power, as the code makes it
-
-module _ (p : ℤ) (f : SFits w32 p) where
-  pub power_low : lt_z (stored p) (negsuc 1999) ≡ true → false ≡ power_inside p
-  unfolding power_inside
-  power_low h = rw (below_least p (rw (to_z-of_z f) at h))
-
-  pub power_high : lt_z (stored p) (negsuc 1999) ≡ false → le_z (stored p) (pos 2000) ≡ power_inside p
-  unfolding power_inside
-  power_high h = rw (to_z-of_z f, from_least p (rw (to_z-of_z f) at h))
-
-  pub power_told : {r : Bool} (t : Bool) → r ≡ power_inside (stored p) → r ≡ t → power_inside p ≡ t
-  power_told t e k = sym (rw (to_z-of_z f) at e) ∙ k
-
 -- ---- a pair
 
 module _ (x : Pair) where
@@ -136,34 +121,26 @@ module _ (x : Pair) where
   pub pair_tested : PairTested x
   pair_tested = record { held = pair_held; failed = λ e h. true≢false (sym (pair_holds h) ∙ e) }
 
--- the tests in the order in which the code makes them: the first that fails, or the last
-module _ (x : Pair) where
-  pub no_lower_figure : figure_test x.lower ≡ false → false ≡ is_pair x
-  unfolding is_pair
-  no_lower_figure h = rw h
+-- ---- the test of a pair, as the code makes it
 
-  pub no_upper_figure : figure_test x.lower ≡ true → figure_test x.upper ≡ false → false ≡ is_pair x
-  unfolding is_pair
-  no_upper_figure a h = rw (a, h)
+-- a figure with its power
+abbrev pub in_range : Figure → Bool
+in_range f = figure_test f && power_inside f.power
 
-  module _ (a : figure_test x.lower ≡ true) (b : figure_test x.upper ≡ true) where
-    pub lower_outside : power_inside x.lower.power ≡ false → false ≡ is_pair x
-    unfolding is_pair
-    lower_outside h = rw (a, b, h)
+pub ranged_figure : (f : Figure) → in_range f ≡ true → IsFigure 9 f
+ranged_figure f e = (tested f).held (both (figure_test f) (power_inside f.power) e).0
 
-    module _ (l : power_inside x.lower.power ≡ true) where
-      pub upper_outside : power_inside x.upper.power ≡ false → false ≡ is_pair x
-      unfolding is_pair
-      upper_outside h = rw (a, b, l, h)
-
-      module _ (u : power_inside x.upper.power ≡ true) (one : Figure) (o : one ≡ of_whole 1) where
-        pub above_one : at_or_below x.lower one ≡ false → false ≡ is_pair x
-        unfolding is_pair
-        above_one h = rw (a, b, l, u, ← o, h)
-
-        pub order_decides : at_or_below x.lower one ≡ true → at_or_below x.lower x.upper ≡ is_pair x
-        unfolding is_pair
-        order_decides h = rw (a, b, l, u, ← o, h)
+-- each figure with its power, and then their order
+pub pair_by_figures : (x : Pair) → is_pair x ≡ (in_range x.lower && in_range x.upper) && (at_or_below x.lower (of_whole 1) && at_or_below x.lower x.upper)
+unfolding is_pair
+pair_by_figures x = go (figure_test x.lower) (figure_test x.upper) (power_inside x.lower.power) (power_inside x.upper.power) _
+  where
+    go : (a b p q r : Bool) → (a && b) && ((p && q) && r) ≡ ((a && p) && (b && q)) && r
+    go true true true q r = refl
+    go true true false q r = refl
+    go true false true q r = refl
+    go true false false q r = refl
+    go false b p q r = refl
 
 -- ---- the first pair that is none
 

@@ -1,12 +1,11 @@
 // Pairs combined: once for the lowers, rounded down, and once for the uppers, rounded up.
-ghost use Rattle.std.specs.Prelude.{◌≡◌, true, ℕ, ◌≤◌, ◌<◌, take};
+ghost use Rattle.std.specs.Prelude.{◌≡◌, ◌≤◌, length};
 ghost use Rattle.figure.specs.Rounding.{IsFigure};
 ghost use Rattle.figure.specs.Operands.{Sized};
-ghost use Rattle.orprob.specs.Pairs.{is_pair};
 ghost use Rattle.orprob.specs.Combination as definition;
-ghost use Rattle.orprob.specs.Internal.Parts.{pair_at};
+ghost use Rattle.orprob.specs.Internal.Parts.{Right};
 
-use crate::{MOST_PAIRS, Pair};
+use crate::Pair;
 use figure::Figure;
 
 // f, or 1 where f is above it.
@@ -15,10 +14,7 @@ fn at_most_one(f: Figure) -> Figure
     ensures { result ≡ definition.at_most_one f }
 {
     let one = Figure::of_whole(1);
-    if f.at_or_below(one) {
-        return f;
-    }
-    one
+    if f.at_or_below(one) { f } else { one }
 }
 
 // s with one subsystem more, p being its probability: s + p * (1 - s), each operation rounded up.
@@ -39,21 +35,17 @@ fn with_lower(s: Figure, p: Figure) -> Figure
     at_most_one(s.plus_down(p.times_down(rest)))
 }
 
-// Both sides of the first `count` pairs.
-pub(crate) fn both_sides(pairs: [Pair; MOST_PAIRS], count: usize) -> Pair
-    requires { (count ≤ 16) × ((i : ℕ) → i < count → is_pair (pair_at (take count pairs) i) ≡ true) }
-    ensures lower_value { result.lower ≡ definition.lower_or (take count pairs) }
-    ensures upper_value { result.upper ≡ definition.upper_or (take count pairs) }
+// Both sides of the pairs.
+pub(crate) fn both_sides(pairs: &[Pair]) -> Pair
+    requires { (length pairs.now ≤ 16) × Right pairs.now (length pairs.now) }
+    ensures lower_value { result.lower ≡ definition.lower_or pairs.now }
+    ensures upper_value { result.upper ≡ definition.upper_or pairs.now }
 {
     let mut lower = Figure::zero();
     let mut upper = Figure::zero();
-    let mut i = 0;
-    while i < count {
-        let x = pairs[i];
+    for x in pairs {
         lower = with_lower(lower, x.lower);
-        let high = at_most_one(x.upper);
-        upper = with_upper(upper, high);
-        i += 1;
+        upper = with_upper(upper, at_most_one(x.upper));
     }
     Pair { lower, upper }
 }

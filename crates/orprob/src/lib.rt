@@ -2,6 +2,8 @@
 // upper figure for the probability that at least one of the subsystems fails. That they fail independently is the caller's to know.
 #![tactic(auto)]
 
+ghost use Rattle.std.specs.Prelude.{◌≡◌};
+ghost use Rattle.orprob.specs.Promise as promise;
 ghost use Rattle.orprob.specs.Promise.{Promised};
 
 use figure::Figure;
@@ -19,27 +21,44 @@ pub struct Pair {
     pub upper: Figure,
 }
 
-// The two figures; or why there are none: no pair or a 17th, or a pair that is none, with its index from 0.
-#[derive(Clone, Copy)]
-pub enum Combined {
-    Figures(Pair),
+// Why there are no two figures: no pair or a 17th, or a pair that is none, with its index from 0.
+#[derive(Clone, Copy, PartialEq, Eq)]
+pub enum OrRefusal {
     PairCountOutOfRange,
     PairOutOfRange(usize),
 }
 
-// The combination of `count` pairs, of which the first stand in `pairs`. It takes any pairs and any count.
-pub fn probabilistic_or(pairs: [Pair; MOST_PAIRS], count: usize) -> Combined
-    ensures { Promised pairs count result }
+impl OrRefusal {
+    // The refusal's number in document 02.
+    pub fn number(self) -> u64
+        ensures { result ≡ promise.number self }
+    {
+        match self {
+            OrRefusal::PairCountOutOfRange => 17,
+            OrRefusal::PairOutOfRange(_) => 18,
+        }
+    }
+
+    // Its place: 0, or the index of the pair that is none.
+    pub fn place(self) -> usize
+        ensures { result ≡ promise.place self }
+    {
+        match self {
+            OrRefusal::PairCountOutOfRange => 0,
+            OrRefusal::PairOutOfRange(i) => i,
+        }
+    }
+}
+
+// The combination of the pairs: the two figures. It takes any pairs and any number of them.
+pub fn probabilistic_or(pairs: &[Pair]) -> Result<Pair, OrRefusal>
+    ensures { Promised pairs.now result }
 {
-    if count < 1 {
-        return Combined::PairCountOutOfRange;
+    if !(1..=MOST_PAIRS).contains(&pairs.len()) {
+        return Err(OrRefusal::PairCountOutOfRange);
     }
-    if MOST_PAIRS < count {
-        return Combined::PairCountOutOfRange;
+    match pairs::first_wrong(pairs) {
+        Some(i) => Err(OrRefusal::PairOutOfRange(i)),
+        None => Ok(combination::both_sides(pairs)),
     }
-    let wrong = pairs::first_wrong(pairs, count);
-    if wrong < count {
-        return Combined::PairOutOfRange(wrong);
-    }
-    Combined::Figures(combination::both_sides(pairs, count))
 }

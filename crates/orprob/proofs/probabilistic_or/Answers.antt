@@ -1,22 +1,26 @@
 -- `probabilistic_or` meets its contract. Assumes nothing.
-use native.Mathlib.Omega.{arith}
-use Rattle.orprob.proofs.Promising.{no_pairs, too_many, one_wrong, all_right}
+use Rattle.std.proofs.Common.{sym, ◌≡◌, ◌≤◌, true, false, length, arith}
+use Rattle.std.proofs.lemmas.Grind.{common_steps}
+use Rattle.word.specs.Faults.{outside}
+use Rattle.orprob.proofs.Promising.{miscounted, one_wrong, all_right, none_wrong}
 use Rattle.orprob.proofs.probabilistic_or.Goals as goal
 
-pub returns-then-count-lt1 : goal.returns-then-count-lt1
-returns-then-count-lt1 c = no_pairs _ _ c.if-count-lt1.true
-
-pub returns-then-count-gt-MOST_PAIRS : goal.returns-then-count-gt-MOST_PAIRS
-returns-then-count-gt-MOST_PAIRS c = too_many _ _ (omega (arith, c.if-count-gt-MOST_PAIRS.true))
-
-pub returns-then-wrong-count : goal.returns-then-wrong-count
-returns-then-wrong-count c =
-    one_wrong _ _ c.if-count-lt1.false c.if-count-gt-MOST_PAIRS.false _ c.first_wrong-wrong.ensures c.if-wrong-count.true
+pub returns-then-not-contains : goal.returns-then-not-contains
+returns-then-not-contains c =
+    let out : outside 1 16 (length c.args.pairs.now) ≡ true = grind (arith, common_steps) in
+    miscounted _ out
 
 pub both_sides-requires : goal.both_sides-requires
-both_sides-requires c = (c.if-count-gt-MOST_PAIRS.false, λ i h. c.first_wrong-wrong.ensures.right i (omega (arith, h, c.if-wrong-count.false)))
+both_sides-requires c =
+    let few : length c.args.pairs.now ≤ 16 = grind (arith, common_steps) in
+    (few, none_wrong _ (sym c.in-None.ensures))
 
-pub returns : goal.returns
-returns c =
-    all_right _ _ c.if-count-lt1.false c.if-count-gt-MOST_PAIRS.false _ c.first_wrong-wrong.ensures c.if-wrong-count.false _ c.both_sides.ensures.lower_value
-    c.both_sides.ensures.upper_value
+pub returns-in-Some : goal.returns-in-Some
+returns-in-Some c =
+    let inside : outside 1 16 (length c.args.pairs.now) ≡ false = grind (arith, common_steps) in
+    one_wrong _ inside _ (sym c.in-Some.ensures)
+
+pub returns-in-None : goal.returns-in-None
+returns-in-None c =
+    let inside : outside 1 16 (length c.args.pairs.now) ≡ false = grind (arith, common_steps) in
+    all_right _ inside (none_wrong _ (sym c.in-None.ensures)) _ c.both_sides.ensures.lower_value c.both_sides.ensures.upper_value
