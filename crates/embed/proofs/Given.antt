@@ -1,60 +1,58 @@
 -- Pairs given as plain numbers, one after the other; and from what `probabilistic_or` promises to what `bounds_or` does. Assumes nothing.
-use Prim.Native.Nat.{ℕ, suc, ◌+◌, ◌<◌}
-use mathlib.Core.Path.{◌≡◌, refl, sym, ap, ap₂, subst, ◌∙◌}
-use mathlib.Core.List.{List, [], ◌∷◌, ◌++◌, map}
-use native.Mathlib.Nat.{zero-add}
-use native.Mathlib.Numerals.{add-one}
-use native.Mathlib.Omega.{arith}
-use lib.ListN.{length, take, set, length-set}
-use lib.Seq.{take_all, take-suc-set}
-use lib.IntN.{ℤ}
-use Rattle.word.specs.Model.{numbers_from}
-use Rattle.word.proofs.Members.{numbers_last}
+use denote.Param.Members.{Mut, Called}
+use Rattle.std.specs.Array.{IsFromFnResult, IsFromFnResultFrom}
+use native.Mathlib.Decide.{dec_le}
+use native.Mathlib.Nat.{lt_of_not-le}
+use Rattle.std.specs.List.{slice_range}
+use Rattle.std.proofs.Common.{ℤ, ℕ, zero, suc, ◌+◌, ◌-◌, ◌≤◌, ◌<◌, ◌≡◌, sym, subst, ◌∙◌, List, length, get_or, take, Result, Err, arith}
+use Rattle.word.proofs.Tests.{above_test}
+use Rattle.model.proofs.Refusals.{refused_not_granted}
 use Rattle.orprob.specs.declared.Pair.{Pair}
-use Rattle.orprob.specs.declared.Combined.{Combined}
+use Rattle.orprob.specs.declared.OrRefusal.{OrRefusal}
+use Rattle.orprob.specs.declared.OrRefusal.TheVariants.{PairCountOutOfRange}
+use Rattle.orprob.specs.Combination.{answer, Encloses}
 use Rattle.orprob.specs.Promise.{answer_of, Promised}
-use Rattle.embed.specs.Subsystems.{pair_given, pairs_given, OrPut, OrAnswered}
+use Rattle.orprob.proofs.Enclosure.{answer_count}
+use Rattle.orprob.proofs.Promising.{faithful_or}
+use Rattle.embed.specs.Subsystems.{pairs_given, OrPut, OrAnswered}
 
--- ---- the room filled
+-- ---- an array made by a closure that keeps its state
 
-map_last : {A B : Type 0} (f : A → B) (xs : List A) (x : A) → map f (xs ++ (x ∷ [])) ≡ map f xs ++ (f x ∷ [])
-map_last f [] x = refl
-map_last f (y ∷ xs) x = ap (λ l. f y ∷ l) (map_last f xs x)
-
-module _ (digits : List ℕ) (powers : List ℤ) where
-  -- the first i of the room are those given
-  pub record Filled (room : List Pair) (i : ℕ) : Type 0 where
-    pub size : length room ≡ 16
-    pub first : take i room ≡ map (pair_given digits powers) (numbers_from i 0)
-
-  pub filled_none : (room : List Pair) → length room ≡ 16 → Filled room 0
-  unfolding numbers_from
-  filled_none room e = record { size = e; first = refl }
-
-  pub filled_more : (room : List Pair) (i : ℕ) (x : Pair) → i < 16 → x ≡ pair_given digits powers i → Filled room i → Filled (set room i x) (i + 1)
-  filled_more room i x h e f = record {
-    size = length-set room i x ∙ f.size;
-    first = rw (add-one) (take-suc-set room i x (omega (arith, h, f.size)) ∙ ap₂ (λ l y. l ++ (y ∷ [])) f.first e ∙ sym given);
-  }
+module _ {F B : Type 0} (g : Mut F (ℕ × Unit {0}) B) (v : ℕ → B) {f : F}
+    (acts : (i : ℕ) (y : B) (q : F) → Called g f (i, tt) y q → (q ≡ f) × (y ≡ v i)) where
+  made_from : (n i : ℕ) (ys : List B) → IsFromFnResultFrom g f ys i n → (k : ℕ) (d : B) → i ≤ k → k < i + n → get_or ys k d ≡ v k
+  made_from zero i ys h k d low high = absurd (omega (arith, low, high))
+  made_from (suc n) i ys (q, y, here, called, later) k d low high =
+      go (dec_le k i) (made_from n (i + 1) ys (subst (λ p. IsFromFnResultFrom g p ys (i + 1) n) (acts i y q called).0 later) k d)
     where
-      given : map (pair_given digits powers) (numbers_from (suc i) 0)
-          ≡ map (pair_given digits powers) (numbers_from i 0) ++ (pair_given digits powers i ∷ [])
-      given = ap (map (pair_given digits powers)) (numbers_last i 0 ∙ ap (λ k. numbers_from i 0 ++ (k ∷ [])) (zero-add i))
-          ∙ map_last (pair_given digits powers) (numbers_from i 0) i
+      go : Dec (k ≤ i) → (i + 1 ≤ k → k < (i + 1) + n → get_or ys k d ≡ v k) → get_or ys k d ≡ v k
+      go (yes h) more = let first : k ≡ i = omega arith in rw first (here.1 d ∙ (acts i y q called).1)
+      go (no h) more = more (omega (arith, lt_of_not-le h)) (omega (arith, high))
 
-  pub filled_all : (room : List Pair) (i : ℕ) → i ≡ 16 → Filled room i → room ≡ pairs_given digits powers
-  unfolding pairs_given
-  filled_all room i e f = sym (take_all 16 room (omega (arith, f.size))) ∙ rw e at f.first
+  pub made_at : {ys : List B} {n : ℕ} → IsFromFnResult g f ys n → (d : B) (k : ℕ) → k < n → get_or ys k d ≡ v k
+  made_at {ys} {n} h d k l = made_from n 0 ys h.each k d (omega arith) (omega (arith, l))
 
 -- ---- the answer
 
-pub or_answered : {digits : List ℕ} {powers : List ℤ} {count number : ℕ} {numbers : List ℕ} {figure_powers : List ℤ} (room : List Pair) (a : Combined)
-    → room ≡ pairs_given digits powers → Promised room count a → OrPut (answer_of a) number numbers figure_powers
-    → OrAnswered digits powers count number numbers figure_powers
-or_answered {digits} {powers} {count} {number} {numbers} {figure_powers} room a e p h =
-    let q : Promised (pairs_given digits powers) count a = subst (λ (l : List Pair). Promised l count a) e p in
-    record {
-      put = subst (λ x. OrPut x number numbers figure_powers) q.answer_is h;
-      encloses = λ r g. q.encloses r (q.answer_is ∙ g);
-      faithful = q.faithful;
-    }
+module _ {digits : List ℕ} {powers : List ℤ} {count number : ℕ} {numbers : List ℕ} {figure_powers : List ℤ} where
+  -- the first of the pairs given, as many as are asked for
+  pub or_answered : {room given : List Pair} {a : Result Pair OrRefusal} → length given ≡ count → room ≡ pairs_given digits powers
+      → given ≡ slice_range room 0 count → Promised given a → OrPut (answer_of a) number numbers figure_powers
+      → OrAnswered digits powers count number numbers figure_powers
+  or_answered {room} {given} {a} l e part p h =
+      let same : given ≡ take count (pairs_given digits powers) = (let z : count - 0 ≡ count = omega arith in rw (z, e) at part) in
+      let is : answer_of a ≡ answer count (take count (pairs_given digits powers)) = rw (l, same) at p.answer_is in
+      record {
+        put = subst (λ x. OrPut x number numbers figure_powers) is h;
+        encloses = λ r g. subst (λ ps. Encloses ps r) same (p.encloses r (is ∙ g));
+        faithful = p.faithful;
+      }
+
+  -- more than there are
+  pub or_uncounted : 16 < count → OrPut (answer_of (Err PairCountOutOfRange)) number numbers figure_powers
+      → OrAnswered digits powers count number numbers figure_powers
+  or_uncounted long h = record {
+    put = rw (answer_count count _ (above_test 1 16 count long)) h;
+    encloses = λ r g. absurd (refused_not_granted (sym (answer_count count _ (above_test 1 16 count long)) ∙ g));
+    faithful = faithful_or;
+  }

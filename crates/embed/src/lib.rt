@@ -13,7 +13,7 @@ ghost use Rattle.figure.specs.Rounding.{figure};
 
 use bounds::{Answer, Report, unreliability, unreliability_by_state};
 use figure::Figure;
-use orprob::probabilistic_or;
+use orprob::{OrRefusal, probabilistic_or};
 use text::answers::words_text;
 use text::bytes::{WORDS_SIZE, words_of};
 use tree::Row;
@@ -167,7 +167,11 @@ pub extern "C" fn bounds_or(
     ensures digits_value { (digits.now ≡ digits.now) × (powers.now ≡ powers.now) }
 {
     let room = subsystems::pairs_given(digits, powers);
-    subsystems::put_combined(probabilistic_or(room, pairs), or_values, or_powers)
+    let combined = match room.get(..pairs) {
+        Some(given) => probabilistic_or(given),
+        None => Err(OrRefusal::PairCountOutOfRange),
+    };
+    subsystems::put_combined(combined, or_values, or_powers)
 }
 
 // The version of the library: major × 1,000,000 + minor × 1,000 + patch.

@@ -6,4 +6,4 @@ pub mod Enclosure
 pub mod Pinned
 mod Operands
 mod Turns
-mod Promising
+pub mod Promising

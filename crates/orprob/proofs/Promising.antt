@@ -28,7 +28,7 @@ not_false : (b : Bool) → not b ≡ false → b ≡ true
 not_false true e = refl
 not_false false e = sym e
 
-faithful_or : FaithfulOr
+pub faithful_or : FaithfulOr
 faithful_or = record { figures = faithful_figures; figure_tested = tested; pair_tested = pair_tested; cases = or_cases_agree; exact_cases = exact_ors_agree }
 
 module _ (pairs : List Pair) where
