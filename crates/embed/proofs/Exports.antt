@@ -1,6 +1,9 @@
 -- From what the entry points promise to what the exported functions do. Assumes nothing.
 use Prim.Native.Nat.{ℕ}
-use mathlib.Core.Path.{ap, ap₂, subst, ◌∙◌}
+use mathlib.Core.Path.{◌≡◌, refl, ap, ap₂, subst, ◌∙◌}
+use mathlib.Core.Bool.{Bool, true, false}
+use Rattle.std.specs.Int.{from_bool}
+use Rattle.word.specs.Model.{one_if}
 use mathlib.Core.List.{List}
 use lib.IntN.{ℤ}
 use Rattle.tree.specs.declared.Row.{Row}
@@ -10,6 +13,11 @@ use Rattle.bounds.specs.declared.Answer.{Answer}
 use Rattle.bounds.specs.Answers.{Promised}
 use Rattle.bounds.specs.Rows.{PromisedRows}
 use Rattle.embed.specs.Exports.{numbers_of, powers_of, AnswerPut, Assessed, AssessedRows}
+
+-- a mark as a number
+pub from_bool_is : (b : Bool) → from_bool b ≡ one_if b
+from_bool_is true = refl
+from_bool_is false = refl
 
 -- the numbers of the answer that the code has are those of the definition's
 pub assessed : {before after : List ℕ} {budget number : ℕ} {numbers : List ℕ} {powers : List ℤ} (a : Answer) → Promised before after budget a

@@ -3,7 +3,6 @@
 
 ghost use Rattle.std.specs.Prelude.{◌≡◌, [], ◌∷◌, take};
 ghost use Rattle.word.specs.Answer.{granted};
-ghost use Rattle.word.specs.Model.{one_if};
 ghost use Rattle.tree.specs.Report as definition;
 ghost use Rattle.bounds.specs.Answers.{report_of, marks_of};
 ghost use Rattle.text.specs.Bytes.{most_bytes, Spelled};
@@ -26,13 +25,6 @@ fn put_powers(lower: i32, upper: i32, cut: i32, powers: &mut [i32; 3])
     *powers = [lower, upper, cut];
 }
 
-// A mark as a number.
-fn mark(kept: bool) -> u64
-    ensures { result ≡ one_if kept }
-{
-    if kept { 1 } else { 0 }
-}
-
 // The numbers of a report.
 fn put_report(r: Report, values: &mut [u64; 9], powers: &mut [i32; 3])
     ensures values_after { values.new ≡ numbers_of (definition.values (granted (report_of r))) (marks_of r) }
@@ -49,8 +41,8 @@ fn put_report(r: Report, values: &mut [u64; 9], powers: &mut [i32; 3])
         r.deaths,
         r.cuts,
         r.steps,
-        mark(r.lower_exact),
-        mark(r.upper_exact),
+        u64::from(r.lower_exact),
+        u64::from(r.upper_exact),
     ];
     put_powers(lower.power, upper.power, cut.power, powers);
 }
@@ -108,10 +100,10 @@ pub extern "C" fn bounds_assess_rows(
 pub extern "C" fn bounds_text(words: &[u32], budget: u64, text: &mut [u8; 256]) -> usize
     ensures { Texted words.now words.now budget text.new result }
 {
-    let t = words_text(words, budget);
-    let bytes = t.bytes;
-    *text = bytes;
-    t.len
+    let answer = words_text(words, budget);
+    let bytes = answer.as_slice();
+    text[..bytes.len()].copy_from_slice(bytes);
+    bytes.len()
 }
 
 // The words of some bytes, at the start of `words`, and how many there are: of more bytes than `words` has room for those of the first, which are

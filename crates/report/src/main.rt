@@ -2,59 +2,31 @@
 // answer, and where the answer cannot be written it is not whole: either is told on standard error.
 #![tactic(auto)]
 
-ghost use Rattle.io.specs.Counts.{IsPrefixLen};
-
+use std::io;
 use std::io::Read;
 
-// What was read into a buffer: its first `len` bytes, and whether a read failed.
-#[derive(Clone, Copy)]
-struct Input {
-    len: usize,
-    failed: bool,
-}
-
-fn read_some<R: Read>(from: &mut R, buffer: &mut [u8]) -> Input
-    ensures { IsPrefixLen result.len buffer.new }
-{
-    match from.read(buffer) {
-        Ok(len) => Input { len, failed: false },
-        Err(_) => Input {
-            len: 0,
-            failed: true,
-        },
-    }
-}
-
-// Reads until the buffer is full, the input ends or a read fails.
-fn read_input<R: Read>(from: &mut R, buffer: &mut [u8]) -> Input
-    ensures { IsPrefixLen result.len buffer.new }
-{
+// Reads until the buffer is full or the input ends, and answers what was read.
+fn read_input<'a, R: Read>(from: &mut R, buffer: &'a mut [u8]) -> io::Result<&'a [u8]> {
     let mut len = 0;
-    let mut failed = false;
     while len < buffer.len() {
-        let part = read_some(from, &mut buffer[len..]);
-        failed = part.failed;
-        if part.len == 0 {
+        let more = from.read(&mut buffer[len..])?;
+        if more == 0 {
             break;
         }
-        len += part.len;
+        len += more;
     }
-    Input { len, failed }
+    Ok(&buffer[..len])
 }
 
 fn main(rt: HostRuntime) {
-    let mut bytes = text::program::input();
-    let input = read_input(&mut rt.stdin(), &mut bytes);
-    if input.failed {
+    let mut buffer = text::program::input();
+    let Ok(bytes) = read_input(&mut rt.stdin(), &mut buffer) else {
         // where standard error fails too, nobody can be told
         eprintln!(rt; "report: standard input could not be read").is_err();
         return;
-    }
-    let len = input.len;
-    let answer = text::program::report(&bytes[..len]);
-    let len = answer.len;
-    let bytes = answer.bytes;
-    if rt.write_all(&bytes[..len]).is_err() {
+    };
+    let answer = text::program::report(bytes);
+    if rt.write_all(answer.as_slice()).is_err() {
         eprintln!(rt; "report: the answer could not be written").is_err();
     }
 }

@@ -9,7 +9,6 @@ use lib.ListN.{length, length-append}
 use lib.Dec.{ltb}
 use borrow.Author.Tests.{lt-ltb, le-ltb}
 use Rattle.text.specs.Text.{digits_within, last_digits}
-use Rattle.text.proofs.Pieces.{Ends}
 
 -- ---- as the code writes them
 
@@ -17,10 +16,10 @@ pub last_none : (n : ℕ) → last_digits 0 n ≡ []
 unfolding last_digits
 last_none n = refl
 
-pub last_more : (k n : ℕ) → 1 ≤ k → Ends (last_digits k n) (last_digits (k - 1) (n / 10)) (48 + n % 10)
+pub last_more : (k n : ℕ) → 1 ≤ k → last_digits k n ≡ last_digits (k - 1) (n / 10) ++ ((48 + n % 10) ∷ [])
 unfolding last_digits
 last_more zero n h = absurd (omega arith)
-last_more (suc k) n h = record { is = simp sub-one }
+last_more (suc k) n h = simp sub-one
 
 pub digits_none : (n : ℕ) → digits_within 0 n ≡ []
 unfolding digits_within
@@ -31,10 +30,10 @@ unfolding digits_within
 digits_one zero n h l = absurd (omega arith)
 digits_one (suc most) n h l = rw (lt-ltb n 10 l, digits_within) (ap (λ (d : ℕ). (48 + d) ∷ []) (omega arith))
 
-pub digits_more : (most n : ℕ) → 1 ≤ most → 10 ≤ n → Ends (digits_within most n) (digits_within (most - 1) (n / 10)) (48 + n % 10)
+pub digits_more : (most n : ℕ) → 1 ≤ most → 10 ≤ n → digits_within most n ≡ digits_within (most - 1) (n / 10) ++ ((48 + n % 10) ∷ [])
 unfolding digits_within
 digits_more zero n h l = absurd (omega arith)
-digits_more (suc most) n h l = record { is = rw (le-ltb n 10 l, digits_within) (simp sub-one) }
+digits_more (suc most) n h l = rw (le-ltb n 10 l, digits_within) (simp sub-one)
 
 -- ---- their number
 

@@ -1,15 +1,17 @@
 -- The text of a figure and of its exponent, piece by piece as the code writes it. Assumes nothing.
-use Prim.Native.Nat.{ℕ, ◌/◌, ◌<◌}
-use mathlib.Core.Path.{◌≡◌, refl}
+use Prim.Native.Nat.{ℕ, ◌/◌}
+use mathlib.Core.Path.{◌≡◌, refl, ap, ◌∙◌}
 use mathlib.Core.Bool.{true, false}
 use mathlib.Core.List.{List, [], ◌∷◌, ◌++◌}
 use native.Mathlib.Omega.{arith}
 use borrow.Author.Tests.{ltb-true, eq-eqb, ne_eqb}
 use lib.IntN.{ℤ, pos, negsuc, nat_abs, ◌+ℤ◌}
-use lib.Signed.{mag, lt_z}
+use lib.Signed.{lt_z}
+use mir.Syntax.{w32, w64}
+use mir.Val.{SFits, to_z, of_z}
+use mir.Facts.{to_z-of_z}
 use Rattle.figure.specs.declared.Figure.{Figure}
 use Rattle.text.specs.Text.{decimal, last_digits, signed_decimal, figure_text}
-use Rattle.text.proofs.Signed.{stored, stored_is}
 
 -- ---- an exponent
 
@@ -23,11 +25,17 @@ unfolding signed_decimal
 positive (pos n) t = refl
 positive (negsuc n) t = let c : ◌≡◌ {A = ℕ} 0 1 = cc in absurd (omega arith)
 
-pub with_minus : (z : ℤ) → mag z < 4294967296 → lt_z (stored z) (pos 0) ≡ true → signed_decimal z ≡ 45 ∷ decimal (nat_abs z)
-with_minus z h t = negative z (rw (stored_is z h) at t)
+-- the same of a number as it is read from its 64 bits, and of its size
+module _ {z : ℤ} {size : ℕ} (f : SFits w64 z) (e : size ≡ nat_abs (to_z w64 (of_z w64 z))) where
+  pub with_minus : lt_z (to_z w64 (of_z w64 z)) (pos 0) ≡ true → signed_decimal z ≡ 45 ∷ decimal size
+  with_minus t = rw (e, to_z-of_z f) (negative z (rw (to_z-of_z f) at t))
 
-pub without_minus : (z : ℤ) → mag z < 4294967296 → lt_z (stored z) (pos 0) ≡ false → signed_decimal z ≡ decimal (nat_abs z)
-without_minus z h t = positive z (rw (stored_is z h) at t)
+  pub without_minus : lt_z (to_z w64 (of_z w64 z)) (pos 0) ≡ false → signed_decimal z ≡ decimal size
+  without_minus t = rw (e, to_z-of_z f) (positive z (rw (to_z-of_z f) at t))
+
+-- eight more than a power of 32 bits, as it is read from 64 bits
+pub exponent_is : {p x : ℤ} → SFits w32 p → SFits w64 x → x ≡ to_z w32 (of_z w32 p) +ℤ pos 8 → to_z w64 (of_z w64 x) ≡ p +ℤ pos 8
+exponent_is f g e = to_z-of_z g ∙ e ∙ ap (λ (z : ℤ). z +ℤ pos 8) (to_z-of_z f)
 
 -- ---- a figure: what is left to write, from the back
 

@@ -1,6 +1,4 @@
-mod Pieces
 mod Digits
-mod Signed
 mod Figures
 mod Lengths
 mod Words

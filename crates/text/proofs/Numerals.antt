@@ -33,7 +33,7 @@ digits_worth (suc most) n h = go (dec_lt n 10) (digits_worth most (n / 10) (more
     go : Dec (n < 10) → worth (digits_within most (n / 10)) ≡ n / 10 → worth (digits_within (suc most) n) ≡ n
     go (yes l) e = ap worth (digits_one (suc most) n (omega arith) l) ∙ omega arith
     go (no g) e =
-        ap worth (digits_more (suc most) n (omega arith) (omega arith)).is
+        ap worth (digits_more (suc most) n (omega arith) (omega arith))
         ∙ worth_snoc (digits_within (suc most - 1) (n / 10)) n
         ∙ ap (λ (k : ℕ). 10 * worth (digits_within k (n / 10)) + n % 10) (sub-one (suc most))
         ∙ omega (arith, e)
@@ -59,7 +59,7 @@ all_digits zero most n h l u = digits_one most n (omega (arith, h)) (omega (arit
 all_digits (suc k) most n h l u =
     let p : 0 < 10 ^ k = one-le-pow k 10 (zero-lt-suc 9) in
     let l' : 10 * 10 ^ k ≤ n = rw pow-succ' at l in
-    (digits_more most n (omega (arith, h)) (omega arith)).is
+    digits_more most n (omega (arith, h)) (omega arith)
     ∙ ap (λ (ds : List ℕ). ds ++ ((48 + n % 10) ∷ [])) (all_digits k (most - 1) (n / 10) (omega (arith, h)) (omega arith) (more (suc k) n u))
 
 nine_digits : (d : ℕ) → 10 ^ 8 ≤ d → d < 10 ^ 9 → last_digits 1 (d / 100000000) ++ last_digits 8 d ≡ decimal d

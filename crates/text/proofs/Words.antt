@@ -1,14 +1,16 @@
 -- The words of some bytes, one after the other, and why so many bytes are enough. Assumes nothing.
-use Prim.Native.Nat.{ℕ, ◌+◌, ◌-◌, ◌*◌, ◌≤◌, ◌<◌}
+use Prim.Native.Nat.{ℕ, zero, suc, ◌+◌, ◌*◌, ◌≤◌, ◌<◌}
 use mathlib.Core.Path.{◌≡◌, refl, sym, ap, ◌∙◌}
 use mathlib.Core.List.{List, [], ◌∷◌, ◌++◌, append-nil, append_assoc}
-use native.Mathlib.Nat.{le_of_eq}
 use native.Mathlib.Omega.{arith}
 use native.Mathlib.Numerals.{add-one}
 use native.Mathlib.Decide.{dec_le}
 use borrow.Author.Tests.{lt-ltb}
 use lib.Dec.{lit<}
-use lib.ListN.{length, take, drop, set, length-drop, length-set}
+use mir.Syntax.{w32}
+use Rattle.std.specs.Int.{from_le_bytes}
+use Rattle.std.specs.Simd.{first_chunks}
+use lib.ListN.{length, take, drop, set, get_or, length-drop, length-set}
 use lib.Seq.{drop-drop, take-suc-set, take_all, length-take-le}
 use Rattle.word.specs.Model.{Model}
 use Rattle.word.specs.Answer.{Answer, refused, then}
@@ -41,52 +43,74 @@ left_over (a ∷ b ∷ []) h k = refl
 left_over (a ∷ b ∷ c ∷ []) h k = refl
 left_over (a ∷ b ∷ c ∷ d ∷ rest) h k = absurd (omega arith)
 
--- the bytes from i on, as the code lends them
-pub rest : (l : List ℕ) (i : ℕ) → take (length l - i) (drop i l) ≡ drop i l
-rest l i = take_all (length l - i) (drop i l) (le_of_eq (length-drop i l))
+-- ---- a chunk of four bytes, and its word
 
--- ---- word by word: the first n words stand, and the bytes from `at` on are left
+chunk_at : (k i : ℕ) (l d : List ℕ) → i < k → get_or (first_chunks 4 k l) i d ≡ take 4 (drop (4 * i) l)
+chunk_at zero i l d h = absurd (omega arith)
+chunk_at (suc k) zero l d h = refl
+chunk_at (suc k) (suc i) l d h =
+    let e : 4 * suc i ≡ 4 + 4 * i = omega arith in
+    chunk_at k i (drop 4 l) d (omega arith) ∙ ap (take 4) (drop-drop (4 * i) 4 l ∙ ap (λ (j : ℕ). drop j l) (sym e))
 
-pub record Filled (bytes words : List ℕ) (at n : ℕ) : Type 0 where
+word_of_four : (l : List ℕ) → 4 ≤ length l → from_le_bytes w32 (take 4 l) ≡ word_at l
+word_of_four [] h = absurd (omega arith)
+word_of_four (a ∷ []) h = absurd (omega arith)
+word_of_four (a ∷ b ∷ []) h = absurd (omega arith)
+word_of_four (a ∷ b ∷ c ∷ []) h = absurd (omega arith)
+word_of_four (a ∷ b ∷ c ∷ d ∷ rest) h = omega arith
+
+-- ---- word by word: the first n words stand, and the bytes behind those of n words are left
+
+pub record Filled (bytes words : List ℕ) (n : ℕ) : Type 0 where
   pub whole : length words ≡ words_size
-  pub four : at ≡ 4 * n
-  pub inside : at ≤ length bytes
-  pub spelled : take n words ++ words_of (drop at bytes) ≡ words_of bytes
+  pub inside : 4 * n ≤ length bytes
+  pub spelled : take n words ++ words_of (drop (4 * n) bytes) ≡ words_of bytes
 
-pub filled_none : (bytes words : List ℕ) → length words ≡ words_size → Filled bytes words 0 0
-filled_none bytes words e = record { whole = e; four = refl; inside = omega arith; spelled = refl }
+pub filled_none : (bytes words : List ℕ) → length words ≡ words_size → Filled bytes words 0
+filled_none bytes words e = record { whole = e; inside = omega arith; spelled = refl }
 
-module _ {bytes words : List ℕ} {at n : ℕ} (f : Filled bytes words at n) where
-  pub filled_more : at + 4 ≤ length bytes → n < words_size → Filled bytes (set words n (word_at (drop at bytes))) (at + 4) (n + 1)
-  filled_more h k =
+module _ {bytes words : List ℕ} {n : ℕ} (f : Filled bytes words n) where
+  filled_next : (w : ℕ) → w ≡ word_at (drop (4 * n) bytes) → 4 * n + 4 ≤ length bytes → n < words_size → Filled bytes (set words n w) (n + 1)
+  filled_next w e h k =
+      let next : 4 * (n + 1) ≡ 4 * n + 4 = omega arith in
       record {
-        whole = length-set words n (word_at (drop at bytes)) ∙ f.whole;
-        four = omega (arith, f.four);
-        inside = h;
+        whole = length-set words n w ∙ f.whole;
+        inside = omega arith;
         spelled =
             rw (
+              next,
               add-one n,
-              take-suc-set words n (word_at (drop at bytes)) (omega (arith, f.whole)),
+              take-suc-set words n w (omega (arith, f.whole)),
               append_assoc,
-              ← drop-drop 4 at bytes,
-              ← next_word (drop at bytes) (simp length-drop (omega arith)),
+              ← drop-drop 4 (4 * n) bytes,
+              e,
+              ← next_word (drop (4 * n) bytes) (simp length-drop (omega arith)),
             )
             f.spelled;
       }
 
+  -- the word of the next of the k chunks of the bytes
+  pub filled_more : (chunks : List (List ℕ)) (k w : ℕ) → chunks ≡ first_chunks 4 k bytes → 4 * k ≤ length bytes → n < k
+      → w ≡ from_le_bytes w32 (get_or chunks n []) → n < words_size → Filled bytes (set words n w) (n + 1)
+  filled_more chunks k w e h l is m =
+      let chunk : get_or chunks n [] ≡ take 4 (drop (4 * n) bytes) = ap (λ (c : List (List ℕ)). get_or c n []) e ∙ chunk_at k n bytes [] l in
+      let word : from_le_bytes w32 (take 4 (drop (4 * n) bytes)) ≡ word_at (drop (4 * n) bytes) =
+      word_of_four (drop (4 * n) bytes) (simp length-drop (omega arith)) in
+      filled_next w (is ∙ ap (from_le_bytes w32) chunk ∙ word) (omega arith) m
+
   -- where no byte is left, and where some are but no four
-  pub spelled_all : length bytes ≤ at → n ≤ words_size → Spelled bytes words n
+  pub spelled_all : length bytes ≤ 4 * n → n ≤ words_size → Spelled bytes words n
   spelled_all h k =
       record {
         whole = f.whole;
         within = k;
         words_are =
             sym (append-nil (take n words))
-            ∙ ap (λ (l : List ℕ). take n words ++ l) (sym (no_word (drop at bytes) (simp length-drop (omega arith))))
+            ∙ ap (λ (l : List ℕ). take n words ++ l) (sym (no_word (drop (4 * n) bytes) (simp length-drop (omega arith))))
             ∙ f.spelled;
       }
 
-  pub spelled_last : at < length bytes → length bytes < at + 4 → n < words_size → Spelled bytes (set words n 0) (n + 1)
+  pub spelled_last : 4 * n < length bytes → length bytes < 4 * n + 4 → n < words_size → Spelled bytes (set words n 0) (n + 1)
   spelled_last h l k =
       record {
         whole = length-set words n 0 ∙ f.whole;
@@ -95,7 +119,7 @@ module _ {bytes words : List ℕ} {at n : ℕ} (f : Filled bytes words at n) whe
             rw (
               add-one n,
               take-suc-set words n 0 (omega (arith, f.whole)),
-              ← left_over (drop at bytes) (simp length-drop (omega arith)) (simp length-drop (omega arith)),
+              ← left_over (drop (4 * n) bytes) (simp length-drop (omega arith)) (simp length-drop (omega arith)),
             )
             f.spelled;
       }

@@ -1,13 +1,7 @@
--- What a `Text` of the code holds. Assumes nothing: these are definitions.
-use Rattle.std.specs.Prelude.{ℕ, ◌≤◌, ◌≡◌, List, length, take}
+-- What a `Text` of the code holds: a clause sees it as the list of its bytes. Assumes nothing: these are definitions.
+use Rattle.std.specs.Prelude.{ℕ, ◌≡◌, List}
 use Rattle.text.specs.declared.Text.{Text}
 
--- the bytes that a text has so far
-abbrev pub contents : Text → List ℕ
-contents t = take t.len t.bytes
-
--- r holds these bytes, and no others; the first two facts are those by which `&bytes[..len]` can be lent on. What its array holds behind them is free.
-pub record Holds (xs : List ℕ) (r : Text) : Type 0 where
-  pub within : r.len ≤ length r.bytes
-  pub counted : r.len ≡ length (contents r)
-  pub bytes : contents r ≡ xs
+-- r holds these bytes, and no others
+abbrev pub Holds : List ℕ → Text → Type 0
+Holds xs r = r ≡ xs

@@ -18,28 +18,16 @@ use word::Refusal;
 fn report_text(r: Report) -> Text
     ensures { Holds (answer_text (granted (report_of r)) (marks_of r)) result }
 {
-    let lower = r.lower;
-    let upper = r.upper;
-    let cut = r.cut;
     Text::empty()
-        .with_figures(lower, upper, cut)
+        .with_figures(r.lower, r.upper, r.cut)
         .with_counts(r.deaths, r.cuts, r.steps)
         .with_exact(r.lower_exact, r.upper_exact)
-}
-
-fn numbered(number: u64, place: u64) -> Text
-    ensures { Holds (answer_text (refused number place) no_marks) result }
-{
-    Text::empty()
-        .with_all(b"refused ")
-        .with_refusal(number, place)
-        .with(b'\n')
 }
 
 fn refusal_text(f: Refusal) -> Text
     ensures { Holds (answer_text (refused (number f) (place f)) no_marks) result }
 {
-    numbered(f.number(), f.place() as u64)
+    Text::empty().with_line(b"refused ", f)
 }
 
 pub fn answer_text(a: Answer) -> Text

@@ -23,14 +23,10 @@ pub fn input() -> [u8; BYTES_SIZE]
 
 // As many rows as a model can need.
 fn no_rows() -> [Row; 1000] {
-    let none = Figure {
-        digits: 0,
-        power: 0,
-    };
     let row = Row {
         state: 0,
-        lower: none,
-        upper: none,
+        lower: Figure::zero(),
+        upper: Figure::zero(),
     };
     [row; 1000]
 }

@@ -2,78 +2,54 @@
 // out.
 #![tactic(auto)]
 
-ghost use Rattle.io.specs.Counts.{IsPrefixLen};
-
 use std::io::Read;
 use text::bytes::{BYTES_SIZE, WORDS_SIZE};
 
-fn count(x: u32) -> usize {
-    x as usize
-}
-
-fn number(x: u32) -> u64 {
-    x as u64
-}
-
-// Reads the next bytes, or 0 where there is none left or a read fails.
-fn read_some<R: Read>(from: &mut R, buffer: &mut [u8]) -> usize
-    ensures { IsPrefixLen result buffer.new }
-{
-    match from.read(buffer) {
-        Ok(n) => n,
-        Err(_) => 0,
-    }
-}
-
-// Reads until the buffer is full, the input ends or a read fails, and answers how many bytes it put at the buffer's start.
-fn read_full<R: Read>(from: &mut R, buffer: &mut [u8]) -> usize
-    ensures { IsPrefixLen result buffer.new }
-{
-    let mut done = 0;
-    while done < buffer.len() {
-        let n = read_some(from, &mut buffer[done..]);
-        if n == 0 {
+// Reads until the buffer is full, the input ends or a read fails, and answers what was read.
+fn read_full<'a, R: Read>(from: &mut R, buffer: &'a mut [u8]) -> &'a [u8] {
+    let mut len = 0;
+    while len < buffer.len() {
+        let more = from.read(&mut buffer[len..]).unwrap_or(0);
+        if more == 0 {
             break;
         }
-        done += n;
+        len += more;
     }
-    done
+    &buffer[..len]
 }
 
-// Reads the next n bytes, or those that are left, into the buffer, and answers how many there were.
-fn next_bytes<R: Read>(from: &mut R, n: usize, buffer: &mut [u8]) -> usize
-    ensures { IsPrefixLen result buffer.new }
-{
+// Reads the next n bytes, or those that are left, and answers them: none where the buffer has no room for n.
+fn next_bytes<'a, R: Read>(from: &mut R, n: u32, buffer: &'a mut [u8]) -> &'a [u8] {
+    let n = n as usize;
     if buffer.len() < n {
-        return 0;
+        return &buffer[..0];
     }
     read_full(from, &mut buffer[..n])
 }
 
 // Writes the name of the next model and the answer to it, and says whether there was one.
 fn next_model<R: Read, P: Print>(from: &mut R, rt: &P) -> bool {
-    let mut sizes = [0u8; 12];
-    if read_full(from, &mut sizes) < 12 {
+    let mut sizes = [0; 12];
+    if read_full(from, &mut sizes).len() < 12 {
         return false;
     }
-    let mut header = [0u32; WORDS_SIZE];
+    let mut header = [0; WORDS_SIZE];
     text::bytes::words_of(&sizes, &mut header);
-    let mut name = [0u8; 64];
-    let n = next_bytes(from, count(header[0]), &mut name);
+    let mut name = [0; 64];
     // where the name cannot be written, neither can the answer, and that is told
-    rt.write_all(&name[..n]).is_err();
-    let mut model = [0u8; BYTES_SIZE];
-    let m = next_bytes(from, count(header[1]), &mut model);
-    let answer = text::answers::answered(&model[..m], number(header[2]));
-    let len = answer.len;
-    let bytes = answer.bytes;
-    rt.write_all(&bytes[..len]).is_ok()
+    rt.write_all(next_bytes(from, header[0], &mut name))
+        .is_err();
+    let mut model = [0; BYTES_SIZE];
+    let bytes = next_bytes(from, header[1], &mut model);
+    let answer = text::answers::answered(bytes, u64::from(header[2]));
+    rt.write_all(answer.as_slice()).is_ok()
 }
 
 fn main(rt: HostRuntime) {
     let mut from = rt.stdin();
-    let mut turns = u64::MAX;
-    while turns > 0 && next_model(&mut from, &rt) {
-        turns -= 1;
+    for _ in 0..u64::MAX {
+        if !next_model(&mut from, &rt) {
+            break;
+        }
     }
 }

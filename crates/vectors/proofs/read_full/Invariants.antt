@@ -2,8 +2,8 @@
 use Rattle.std.proofs.Common.{length, ◌-◌, ◌≤◌}
 use Rattle.vectors.proofs.read_full.Given as goal
 
-abbrev pub invariant-loop-done : goal.invariant-loop-done
-invariant-loop-done g l = l.done ≤ length l.buffer
+abbrev pub invariant-loop-len : goal.invariant-loop-len
+invariant-loop-len g l = l.len ≤ length l.buffer
 
-abbrev pub decreases-loop-done : goal.decreases-loop-done
-decreases-loop-done g l = length l.initial.buffer - l.done
+abbrev pub decreases-loop-len : goal.decreases-loop-len
+decreases-loop-len g l = length l.initial.buffer - l.len

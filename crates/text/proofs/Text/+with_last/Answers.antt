@@ -1,20 +1,21 @@
--- `text::Text::with_last` meets its contract, by induction on the number of digits. Assumes nothing.
-use native.Mathlib.Omega.{arith}
-use Rattle.text.proofs.Pieces.{added_none, room_before, room_last, added_last}
+-- `text::Text::with_last` meets its contract, by the digits before the last and the last. Assumes nothing.
+use Rattle.std.proofs.Common.{arith, sym, append-nil}
+use Rattle.std.proofs.lemmas.Grind.{common_steps}
 use Rattle.text.proofs.Digits.{last_none, last_more}
 use Rattle.text.proofs.Text.+with_last.Goals as goal
 
 pub returns-then-k-eq0 : goal.returns-then-k-eq0
-returns-then-k-eq0 t c = rw (c.if-k-eq0.true, last_none) (added_none c.args.self)
+returns-then-k-eq0 t c = rw (c.if-k-eq0.true, last_none) (sym (append-nil c.args.self))
 
 pub with_last-requires : goal.with_last-requires
-with_last-requires t c = (omega arith, room_before (last_more c.args.k c.args.n (omega arith)) c.requires)
+with_last-requires t c =
+    let e = last_more c.args.k c.args.n (omega arith) in
+    (omega arith, grind (arith, common_steps, e))
 
-pub digit-requires : goal.digit-requires
-digit-requires t c = tt
-
-pub with-requires : goal.with-requires
-with-requires t c = room_last (last_more c.args.k c.args.n (omega arith)) c.digit.ensures c.requires c.with_last.ensures
+pub with_byte-requires : goal.with_byte-requires
+with_byte-requires t c =
+    let e = last_more c.args.k c.args.n (omega arith) in grind (arith, common_steps, e)
 
 pub returns : goal.returns
-returns t c = added_last (last_more c.args.k c.args.n (omega arith)) c.digit.ensures c.with_last.ensures c.with.ensures
+returns t c =
+    let e = last_more c.args.k c.args.n (omega arith) in grind (arith, common_steps, e)
