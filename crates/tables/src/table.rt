@@ -22,6 +22,7 @@ pub struct StepEntry {
     pub grains: Packed,
 }
 
+#[derive(Drop)]
 pub struct Table {
     pub states: [StateEntry; 1001],
     pub steps: [StepEntry; 4000],
