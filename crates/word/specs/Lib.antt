@@ -1,5 +1,6 @@
 pub mod Model
 pub mod Words
+pub mod Kinds
 pub mod Faults
 pub mod Answer
 pub mod Refusal

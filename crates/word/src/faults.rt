@@ -1,141 +1,96 @@
 // Tests of one word, each handed its place and the part of the words that begins at it, or, where its kind is known, the word itself.
-ghost use Rattle.std.specs.Prelude.{◌≡◌};
+#![tactic(auto, unfolding(crate::specs::Internal::Tests::first_fault, crate::specs::Internal::Tests::word_answer))]
+
+ghost use Rattle.std.specs.Prelude.{◌≡◌, true, false, MatchResult, get_or};
 ghost use Rattle.word.specs.Faults as faults;
-ghost use Rattle.word.specs.Internal.Tests.{answer, first_fault, word_answer, field_faults};
+ghost use Rattle.word.specs.Kinds.{kind_number};
+ghost use Rattle.word.specs.Internal.Tests.{answer, first_fault, word_answer, field_faults, FirstOfKind};
 
+use crate::Refusal;
 use crate::fields::{
-    caps_rest, coefficient, edition, end_rest, entry_limit, from, kind, named_rest, named_state,
-    scale, start, states, step_limit, to, transition_rest,
+    caps_rest, coefficient, edition, end_rest, entry_limit, from, named_rest, named_state, scale,
+    start, states, step_limit, to, transition_rest,
 };
-use crate::{Refusal, Verdict};
+use crate::kinds::Kind;
 
-// Is n below `least` or above `most`?
-fn outside(least: usize, most: usize, n: usize) -> bool
-    ensures { result ≡ faults.outside least most n }
+// What must hold, or else why the model is turned away.
+pub fn ensure(holds: bool, or_else: Refusal) -> Result<(), Refusal>
+    ensures { MatchResult result (λ _. holds ≡ true) (λ f. (holds ≡ false) × (f ≡ or_else)) }
 {
-    if n < least {
-        return true;
-    }
-    most < n
+    if holds { Ok(()) } else { Err(or_else) }
 }
 
-pub fn head(part: &[u32], at: usize) -> Verdict
+// The part's first word, which must be of this kind.
+fn first(part: &[u32], at: usize, kind: Kind) -> Result<u32, Refusal>
+    ensures { FirstOfKind kind at part.now result }
+{
+    match part.first() {
+        Some(&w) if kind.is_of(w) => Ok(w),
+        _ => Err(Refusal::WrongKind(at)),
+    }
+}
+
+pub fn head(part: &[u32], at: usize) -> Result<(), Refusal>
     ensures { answer result ≡ word_answer faults.head_faults at part.now }
 {
-    if part.len() == 0 {
-        return Verdict::Refused(Refusal::WrongKind(at));
-    }
-    let w = part[0];
-    if kind(w) != 1 {
-        return Verdict::Refused(Refusal::WrongKind(at));
-    }
-    if edition(w) != 1 {
-        return Verdict::Refused(Refusal::FieldOutOfRange(at));
-    }
+    let w = first(part, at, Kind::Head)?;
+    ensure(edition(w) == 1, Refusal::FieldOutOfRange(at))?;
     let n = states(w);
-    if outside(1, 1000, n) {
-        return Verdict::Refused(Refusal::FieldOutOfRange(at));
-    }
-    if outside(1, n, start(w)) {
-        return Verdict::Refused(Refusal::FieldOutOfRange(at));
-    }
-    Verdict::Fine
+    ensure((1..=1000).contains(&n), Refusal::FieldOutOfRange(at))?;
+    ensure((1..=n).contains(&start(w)), Refusal::FieldOutOfRange(at))
 }
 
-// A quantity of the kind k: its scale is at most `most`, its coefficient from `least` to 999,999.
-pub fn quantity(part: &[u32], at: usize, k: u32, most: u32, least: usize) -> Verdict
-    ensures { answer result ≡ word_answer (faults.quantity_faults k most least) at part.now }
+// A quantity of this kind: its scale is at most `most`, its coefficient from `least` to 999,999.
+pub fn quantity(part: &[u32], at: usize, kind: Kind, most: u32, least: usize) -> Result<(), Refusal>
+    ensures { answer result ≡ word_answer (faults.quantity_faults (kind_number kind) most least) at part.now }
 {
-    if part.len() == 0 {
-        return Verdict::Refused(Refusal::WrongKind(at));
-    }
-    let w = part[0];
-    if kind(w) != k {
-        return Verdict::Refused(Refusal::WrongKind(at));
-    }
-    if most < scale(w) {
-        return Verdict::Refused(Refusal::QuantityOutOfRange(at));
-    }
-    if outside(least, 999_999, coefficient(w) as usize) {
-        return Verdict::Refused(Refusal::QuantityOutOfRange(at));
-    }
-    Verdict::Fine
+    let w = first(part, at, kind)?;
+    let c = coefficient(w) as usize;
+    let fits = scale(w) <= most && (least..=999_999).contains(&c);
+    ensure(fits, Refusal::QuantityOutOfRange(at))
 }
 
-pub fn caps(part: &[u32], at: usize) -> Verdict
+pub fn caps(part: &[u32], at: usize) -> Result<(), Refusal>
     ensures { answer result ≡ word_answer faults.caps_faults at part.now }
 {
-    if part.len() == 0 {
-        return Verdict::Refused(Refusal::WrongKind(at));
-    }
-    let w = part[0];
-    if kind(w) != 4 {
-        return Verdict::Refused(Refusal::WrongKind(at));
-    }
-    if caps_rest(w) != 0 {
-        return Verdict::Refused(Refusal::BitSet(at));
-    }
-    if outside(1, 24, step_limit(w) as usize) {
-        return Verdict::Refused(Refusal::FieldOutOfRange(at));
-    }
-    if outside(1, 24, entry_limit(w) as usize) {
-        return Verdict::Refused(Refusal::FieldOutOfRange(at));
-    }
-    Verdict::Fine
+    let w = first(part, at, Kind::Caps)?;
+    ensure(caps_rest(w) == 0, Refusal::BitSet(at))?;
+    let l = step_limit(w);
+    ensure((1..=24).contains(&l), Refusal::FieldOutOfRange(at))?;
+    let v = entry_limit(w);
+    ensure((1..=24).contains(&v), Refusal::FieldOutOfRange(at))
 }
 
 // The tests of a word w that names a generator's state, whose kind is known and which stands at `place`: `last` is the state named before, 0 if there is
 // none, and `count` says how many were named.
-pub fn named(w: u32, place: usize, states: usize, last: usize, count: usize) -> Verdict
+pub fn named(w: u32, place: usize, states: usize, last: usize, count: usize) -> Result<(), Refusal>
     ensures { answer result ≡ first_fault (faults.named_faults states last count w) place }
 {
     let s = named_state(w);
-    if named_rest(w) != 0 {
-        return Verdict::Refused(Refusal::BitSet(place));
-    }
-    if outside(1, states, s) {
-        return Verdict::Refused(Refusal::FieldOutOfRange(place));
-    }
-    if s <= last {
-        return Verdict::Refused(Refusal::StateNotGreater(place));
-    }
-    if 100 <= count {
-        return Verdict::Refused(Refusal::TooManyTransitions(place));
-    }
-    Verdict::Fine
+    ensure(named_rest(w) == 0, Refusal::BitSet(place))?;
+    ensure((1..=states).contains(&s), Refusal::FieldOutOfRange(place))?;
+    ensure(last < s, Refusal::StateNotGreater(place))?;
+    ensure(count < 100, Refusal::TooManyTransitions(place))
 }
 
 // Tests 4, 6 and 7 of a transition's word w, whose kind is known and which stands at `place`.
-pub fn transition(w: u32, place: usize, states: usize) -> Verdict
+pub fn transition(w: u32, place: usize, states: usize) -> Result<(), Refusal>
     ensures { answer result ≡ first_fault (field_faults states w) place }
 {
-    let rest = transition_rest(w);
     let a = from(w);
     let b = to(w);
-    if rest != 0 {
-        return Verdict::Refused(Refusal::BitSet(place));
-    }
-    if outside(1, states, a) {
-        return Verdict::Refused(Refusal::FieldOutOfRange(place));
-    }
-    if outside(1, states, b) {
-        return Verdict::Refused(Refusal::FieldOutOfRange(place));
-    }
-    if a == b {
-        return Verdict::Refused(Refusal::SelfTransition(place));
-    }
-    Verdict::Fine
+    ensure(transition_rest(w) == 0, Refusal::BitSet(place))?;
+    let known = (1..=states).contains(&a) && (1..=states).contains(&b);
+    ensure(known, Refusal::FieldOutOfRange(place))?;
+    ensure(a != b, Refusal::SelfTransition(place))
 }
 
 // The end's word, whose kind is known: no other bit is set.
-pub fn end(part: &[u32], at: usize) -> Verdict
+pub fn end(part: &[u32], at: usize) -> Result<(), Refusal>
     ensures { answer result ≡ word_answer faults.end_faults at part.now }
 {
-    if part.len() == 0 {
-        return Verdict::Refused(Refusal::WrongKind(at));
-    }
-    if end_rest(part[0]) != 0 {
-        return Verdict::Refused(Refusal::BitSet(at));
-    }
-    Verdict::Fine
+    let Some(&w) = part.first() else {
+        return Err(Refusal::WrongKind(at));
+    };
+    ensure(end_rest(w) == 0, Refusal::BitSet(at))
 }

@@ -3,17 +3,18 @@
 
 pub mod faults;
 pub mod fields;
+pub mod kinds;
 mod reasons;
 
 // A quantity of the table: coefficient / 10^scale.
-#[derive(Clone, Copy)]
+#[derive(Clone, Copy, PartialEq, Eq)]
 pub struct Quantity {
     pub coefficient: u32,
     pub scale: u32,
 }
 
 // Why a model is turned away, with the word's place, the state or the number of rows needed where the documents give one.
-#[derive(Clone, Copy)]
+#[derive(Clone, Copy, PartialEq, Eq)]
 pub enum Refusal {
     TooManyWords,
     BudgetOutOfRange,
@@ -30,11 +31,4 @@ pub enum Refusal {
     NamedStateWithExits(usize),
     TooFewRows(usize),
     OverBudget,
-}
-
-// What a test of one word or of several says.
-#[derive(Clone, Copy)]
-pub enum Verdict {
-    Fine,
-    Refused(Refusal),
 }

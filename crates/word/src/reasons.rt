@@ -31,21 +31,19 @@ impl Refusal {
         ensures { result ≡ refusals.place self }
     {
         match self {
-            Refusal::TooManyWords => 0,
-            Refusal::BudgetOutOfRange => 0,
-            Refusal::WrongKind(i) => i,
-            Refusal::BitSet(i) => i,
-            Refusal::QuantityOutOfRange(i) => i,
-            Refusal::FieldOutOfRange(i) => i,
-            Refusal::SelfTransition(i) => i,
-            Refusal::DuplicateTransition(i) => i,
-            Refusal::TooManyTransitions(i) => i,
-            Refusal::ProbabilitiesNotOne(s) => s,
-            Refusal::StartWithoutExits(s) => s,
-            Refusal::OverBudget => 0,
-            Refusal::TooFewRows(n) => n,
-            Refusal::StateNotGreater(i) => i,
-            Refusal::NamedStateWithExits(s) => s,
+            Refusal::TooManyWords | Refusal::BudgetOutOfRange | Refusal::OverBudget => 0,
+            Refusal::WrongKind(place)
+            | Refusal::BitSet(place)
+            | Refusal::QuantityOutOfRange(place)
+            | Refusal::FieldOutOfRange(place)
+            | Refusal::SelfTransition(place)
+            | Refusal::DuplicateTransition(place)
+            | Refusal::TooManyTransitions(place)
+            | Refusal::ProbabilitiesNotOne(place)
+            | Refusal::StartWithoutExits(place)
+            | Refusal::TooFewRows(place)
+            | Refusal::StateNotGreater(place)
+            | Refusal::NamedStateWithExits(place) => place,
         }
     }
 }

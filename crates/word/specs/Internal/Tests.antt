@@ -1,16 +1,18 @@
 -- What the tests of one word promise, in the terms of Faults. Assumes nothing: these are definitions.
-use Rattle.std.specs.Prelude.{ℕ, ◌<◌, ◌≡◌, true, false, ◌||◌, ◌⊎◌, List, [], ◌∷◌, eqb}
-use Rattle.word.specs.declared.Verdict.{Verdict}
-use Rattle.word.specs.declared.Verdict.TheVariants.{Fine, Refused as refusal}
+use Rattle.std.specs.Prelude.{ℕ, ◌<◌, ◌≡◌, true, false, ◌||◌, ◌⊎◌, List, [], ◌∷◌, length, get_or, eqb, Result, Ok, Err}
+use Rattle.word.specs.declared.Refusal.{Refusal}
+use Rattle.word.specs.declared.Refusal.TheVariants.{WrongKind}
+use Rattle.word.specs.declared.kinds.Kind.{Kind}
+use Rattle.word.specs.Kinds.{is_of}
 use Rattle.word.specs.Words.{kind, from_field, to_field, transition_rest}
 use Rattle.word.specs.Faults.{Fault, ◌gives◌, outside, differs}
 use Rattle.word.specs.Answer.{Answer, refused, granted}
 use Rattle.word.specs.Refusal.{number, place}
 
--- a verdict as an answer
-abbrev pub answer : Verdict → Answer (Unit {0})
-answer Fine = granted tt
-answer (refusal f) = refused (number f) (place f)
+-- what a test says, as an answer
+abbrev pub answer : Result (Unit {0}) Refusal → Answer (Unit {0})
+answer (Ok x) = granted tt
+answer (Err f) = refused (number f) (place f)
 
 -- the first fault of the word at place i that holds
 unfoldable pub first_fault : List Fault → ℕ → Answer (Unit {0})
@@ -35,3 +37,9 @@ pub record TransitionWord (w : ℕ) : Type 0 where
   pub below : w < 4294967296
   pub kind_is : (kind w ≡ 5) ⊎ (kind w ≡ 7)
   pub rest : transition_rest w ≡ 0
+
+-- the first word of the part that begins at place i, which is to be of a kind
+abbrev pub FirstOfKind : Kind → ℕ → List ℕ → Result ℕ Refusal → Type 0
+FirstOfKind kind i part (Ok w) = (get_or part 0 0 ≡ w) × ((0 < length part) × (is_of kind w ≡ true))
+FirstOfKind kind i [] (Err f) = f ≡ WrongKind i
+FirstOfKind kind i (w ∷ ws) (Err f) = (f ≡ WrongKind i) × (is_of kind w ≡ false)
