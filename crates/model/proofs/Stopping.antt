@@ -1,13 +1,13 @@
 -- Reading from the left stops at a word, or where the words ran out, exactly if it is refused there; and the state that is found lowest is the lowest
 -- that passes its test. Assumes nothing.
-use Prim.Native.Nat.{ℕ, zero, suc, ◌+◌, ◌-◌, ◌≤◌, ◌<◌}
+use Prim.Native.Nat.{ℕ, zero, suc, ◌+◌, ◌≤◌, ◌<◌}
 use mathlib.Core.Path.{◌≡◌, refl, sym, ap, ◌∙◌}
 use mathlib.Core.Bool.{Bool, true, false}
 use mathlib.Core.List.{List, [], ◌∷◌}
 use native.Mathlib.Nat.{add-zero}
-use native.Mathlib.Numerals.{add-one}
 use native.Mathlib.Omega.{arith}
 use native.Mathlib.Decide.{ℕ_discrete}
+use Rattle.std.specs.Prelude.{Option, None, Some, MatchOption}
 use lib.ListN.{length, get_or, drop, drop_of_length-le}
 use lib.Seq.{drop-cons}
 use Rattle.word.specs.Model.{Model}
@@ -156,31 +156,10 @@ module _ (test : ℕ → Bool) where
   pub none_is_found : (n : ℕ) → NoneBelow test (suc n) → lowest test n 1 ≡ 0
   none_is_found n h = lowest_zero n 1 (λ k low high. h k low (omega arith))
 
-  -- as a loop passes the states up to n: before the first turn, in a turn and after the last
-  pub lowest_all : (n : ℕ) → lowest test (n + 1 - 1) 1 ≡ lowest test n 1
-  lowest_all n = let e : n + 1 - 1 ≡ n = omega arith in ap (λ (k : ℕ). lowest test k 1) e
-
-  pub lowest_turn : (n s : ℕ) → s ≤ n → test s ≡ true → lowest test (n + 1 - s) s ≡ s
-  lowest_turn n s h passed =
-      let e : n + 1 - s ≡ suc (n - s) = omega arith in
-      ap (λ (k : ℕ). lowest test k s) e ∙ lowest_here test (n - s) s passed
-
-  pub lowest_next : (n s : ℕ) → s ≤ n → test s ≡ false → lowest test (n + 1 - (s + 1)) (s + 1) ≡ lowest test (n + 1 - s) s
-  lowest_next n s h failed =
-      let e : n + 1 - s ≡ suc (n - s) = omega arith in
-      let f : n + 1 - (s + 1) ≡ n - s = omega arith in
-      rw (f, add-one) (sym (ap (λ (k : ℕ). lowest test k s) e ∙ lowest_later test (n - s) s failed))
-
-  pub lowest_none_left : (n s : ℕ) → n < s → lowest test (n + 1 - s) s ≡ 0
-  unfolding lowest
-  lowest_none_left n s h = let e : n + 1 - s ≡ 0 = omega arith in ap (λ (k : ℕ). lowest test k s) e
-
--- two tests that agree at each state
-pub lowest_same : (p q : ℕ → Bool) (n s : ℕ) → ((k : ℕ) → s ≤ k → k < s + n → p k ≡ q k) → lowest p n s ≡ lowest q n s
-unfolding lowest
-lowest_same p q zero s h = refl
-lowest_same p q (suc n) s h = go (q s) refl (lowest_same p q n (suc s) (λ k low high. h k (omega arith) (omega arith)))
-  where
-    go : (b : Bool) → q s ≡ b → lowest p n (suc s) ≡ lowest q n (suc s) → lowest p (suc n) s ≡ lowest q (suc n) s
-    go true e rest = lowest_here p n s (h s (omega arith) (omega arith) ∙ e) ∙ sym (lowest_here q n s e)
-    go false e rest = lowest_later p n s (h s (omega arith) (omega arith) ∙ e) ∙ rest ∙ sym (lowest_later q n s e)
+  -- as a search through the states from 1 to n finds it
+  pub lowest_of_range : (n : ℕ) (r : Option ℕ)
+      → MatchOption r ((s : ℕ) → 1 ≤ s → s < n + 1 → test s ≡ false)
+      (λ s. (1 ≤ s) × (s < n + 1) × (test s ≡ true) × ((k : ℕ) → 1 ≤ k → k < s → test k ≡ false))
+      → MatchOption r (NoneBelow test (suc n)) (IsLowest test n)
+  lowest_of_range n None h = λ s low high. h s low (omega arith)
+  lowest_of_range n (Some s) h = record { low = h.0; high = omega arith; passes = h.2; none_below = h.3 }

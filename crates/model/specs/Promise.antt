@@ -1,13 +1,11 @@
 -- What the code's `read` promises. Assumes nothing: these are definitions.
-use Rattle.std.specs.Prelude.{ℕ, ◌<◌, ◌≡◌, ◌⊎◌, List, length, get_or}
+use Rattle.std.specs.Prelude.{ℕ, ◌<◌, ◌≡◌, ◌⊎◌, List, length, get_or, Result, Ok, Err}
 use Rattle.word.specs.declared.Refusal.{Refusal}
 use Rattle.word.specs.Model.{Model}
 use Rattle.word.specs.Words.{kind}
 use Rattle.word.specs.Refusal.{number, place}
 use Rattle.word.specs.Answer.{refused, granted}
 use Rattle.model.specs.declared.Accepted.{Accepted}
-use Rattle.model.specs.declared.Reading.{Reading}
-use Rattle.model.specs.declared.Reading.TheVariants.{Accepted as accepted, Refused as refusal}
 use Rattle.model.specs.Reading.{read}
 use Rattle.model.specs.Index.{place_of, Indexed}
 
@@ -37,11 +35,11 @@ pub record Accepts (ws : List ℕ) (budget : ℕ) (index : List ℕ) (a : Accept
 pub record Refuses (ws : List ℕ) (budget : ℕ) (index : List ℕ) (f : Refusal) : Type 0 where
   pub reads : read ws budget ≡ refused (number f) (place f)
 
-abbrev pub Answers : List ℕ → ℕ → List ℕ → Reading → Type 0
-Answers ws budget index (accepted a) = Accepts ws budget index a
-Answers ws budget index (refusal f) = Refuses ws budget index f
+abbrev pub Answers : List ℕ → ℕ → List ℕ → Result Accepted Refusal → Type 0
+Answers ws budget index (Ok a) = Accepts ws budget index a
+Answers ws budget index (Err f) = Refuses ws budget index f
 
 -- What `read` promises of the words before and after, the budget, what the lent array holds after, and the answer.
-pub record Promised (before after : List ℕ) (budget : ℕ) (index : List ℕ) (r : Reading) : Type 0 where
+pub record Promised (before after : List ℕ) (budget : ℕ) (index : List ℕ) (r : Result Accepted Refusal) : Type 0 where
   pub words_unchanged : after ≡ before
   pub answer : Answers before budget index r

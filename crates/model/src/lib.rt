@@ -9,13 +9,15 @@ mod probabilities;
 mod transitions;
 
 ghost use Rattle.model.specs.Promise.{Promised};
+ghost use Rattle.model.specs.Internal.Parts.{CalledAs};
 
 use crate::conclusion::concluded;
 use crate::index::Index;
-use crate::named::{Naming, name_states};
-use crate::opening::{Opening, open};
+use crate::named::name_states;
+use crate::opening::open;
 use crate::transitions::list;
-use word::{Quantity, Refusal, Verdict};
+use word::faults::ensure;
+use word::{Quantity, Refusal};
 
 // A model has at most so many words.
 pub const MOST_WORDS: usize = 16_105;
@@ -32,34 +34,22 @@ pub struct Accepted {
     pub prune: Quantity,
 }
 
-#[derive(Clone, Copy)]
-pub enum Reading {
-    Accepted(Accepted),
-    Refused(Refusal),
+// The caller's two tests, 1 and 2.
+fn called(words: &[u32], budget: u64) -> Result<(), Refusal>
+    ensures { CalledAs words.now budget result }
+{
+    ensure(words.len() <= MOST_WORDS, Refusal::TooManyWords)?;
+    ensure((1..=1_000_000).contains(&budget), Refusal::BudgetOutOfRange)
 }
 
 // Reads a model's words to their end or to the first fault, tests 1 to 11, 15 and 16, and fills the index of its exits into the lent array, whatever
 // it held. On a refusal what the array then holds is free.
-pub fn read(words: &[u32], budget: u64, index: &mut Index) -> Reading
+pub fn read(words: &[u32], budget: u64, index: &mut Index) -> Result<Accepted, Refusal>
     ensures { Promised words.now words.now budget index.new result }
 {
-    if MOST_WORDS < words.len() {
-        return Reading::Refused(Refusal::TooManyWords);
-    }
-    if budget < 1 {
-        return Reading::Refused(Refusal::BudgetOutOfRange);
-    }
-    if 1_000_000 < budget {
-        return Reading::Refused(Refusal::BudgetOutOfRange);
-    }
-    match open(words) {
-        Opening::Refused(f) => Reading::Refused(f),
-        Opening::Opened(a) => match name_states(words, a, index) {
-            Naming::Refused(f) => Reading::Refused(f),
-            Naming::From(first) => match list(words, a, first, index) {
-                Verdict::Refused(f) => Reading::Refused(f),
-                Verdict::Fine => concluded(words, a, index),
-            },
-        },
-    }
+    called(words, budget)?;
+    let a = open(words)?;
+    let first = name_states(words, a, index)?;
+    list(words, a, first, index)?;
+    concluded(words, a, index)
 }

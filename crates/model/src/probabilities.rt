@@ -1,76 +1,61 @@
 // The sums of the probabilities of each state's fast exits, in whole numbers of 10^-12.
 ghost use Rattle.std.specs.Prelude.{ℕ, ◌-◌, ◌*◌, ◌^◌, ◌≤◌, ◌≡◌, get_or};
-ghost use Rattle.word.specs.Model.{Net};
 ghost use Rattle.word.specs.Words.{scale_field, coefficient_field};
 ghost use Rattle.model.specs.Index.{exit_count};
-ghost use Rattle.model.specs.Reading.{lowest, uneven};
-ghost use Rattle.model.specs.Internal.Parts.{slot_transitions, sums_uneven, Leads, Through};
+ghost use Rattle.model.specs.Internal.Parts.{
+  slot_transitions,
+  uneven_by,
+  IsFastSum,
+  IsLowestOf,
+  Leads,
+};
 
 use crate::index::{Index, exit_count, slot_place};
 use word::fields::{is_fast, quantity_at, word_at};
 
-// 10^n
-fn ten_to(n: u32) -> u64
-    requires { n ≤ 12 }
-    ensures { result ≡ 10 ^ n }
-{
-    let mut p: u64 = 1;
-    let mut i = 0;
-    while i < n {
-        p = p * 10;
-        i += 1;
-    }
-    p
-}
-
 // The probability at the part's first word, as a whole number of 10^-12.
+#[tactic(auto, using(crate::proofs::Units::units_high))]
 fn units(part: &[u32]) -> u64
     ensures value { result ≡ coefficient_field (get_or part.now 0 0) * 10 ^ (12 - scale_field (get_or part.now 0 0)) }
     ensures upper_bound { result ≤ 1048575000000000000 }
 {
     let q = quantity_at(part);
-    let p = q.scale;
-    let c = q.coefficient as u64;
-    if 12 <= p {
-        return c;
-    }
-    c * ten_to(12 - p)
+    u64::from(q.coefficient) * 10u64.pow(12u32.saturating_sub(q.scale))
 }
 
-// Do the first n slots of the state s lead to fast exits whose probabilities do not sum to 1?
-fn uneven(words: &[u32], index: &Index, s: usize, n: usize) -> bool
+// The sum of the probabilities of the fast ones among the exits that the first n slots of the state s lead to.
+fn fast_sum(words: &[u32], index: &Index, s: usize, n: usize) -> Option<u64>
     requires { Leads words.now index.now s n }
-    ensures { result ≡ sums_uneven (slot_transitions words.now index.now s n) }
+    ensures { IsFastSum (slot_transitions words.now index.now s n) result }
 {
-    let mut sum: u64 = 0;
-    let mut any = false;
-    let mut i = 0;
-    while i < n {
+    let mut sum = None;
+    for i in 0..n {
         let at = slot_place(index, s, i);
         if is_fast(word_at(&words[at..])) {
-            any = true;
             let third = at + 3;
-            sum = sum + units(&words[third..]);
+            sum = Some(sum.unwrap_or(0) + units(&words[third..]));
         }
-        i += 1;
     }
-    if any {
-        return sum != 1_000_000_000_000;
-    }
-    false
+    sum
 }
 
-// The lowest such state of 1 to `states`, by the exits that the index leads to, or 0.
-pub(crate) fn lowest_uneven(words: &[u32], states: usize, index: &Index) -> usize
-    requires { (states ≤ 1000) × ((s : ℕ) → s ≤ states → Leads words.now index.now s (exit_count index.now s)) }
-    ensures { (net : Net) → Through words.now index.now states net → result ≡ lowest (uneven net) states 1 }
+// Has the state s fast exits whose probabilities do not sum to 1?
+fn uneven(words: &[u32], index: &Index, s: usize) -> bool
+    requires { Leads words.now index.now s (exit_count index.now s) }
+    ensures { result ≡ uneven_by words.now index.now s }
 {
-    let mut s = 1;
-    while s <= states {
-        if uneven(words, index, s, exit_count(index, s)) {
-            return s;
-        }
-        s += 1;
-    }
-    0
+    let n = exit_count(index, s);
+    fast_sum(words, index, s, n).is_some_and(|sum| sum != 1_000_000_000_000)
+}
+
+// The lowest such state of 1 to `states`, by the exits that the index leads to.
+pub(crate) fn lowest_uneven(words: &[u32], states: usize, index: &Index) -> Option<usize>
+    requires { (states ≤ 1000) × ((s : ℕ) → s ≤ states → Leads words.now index.now s (exit_count index.now s)) }
+    ensures { IsLowestOf (uneven_by words.now index.now) states result }
+{
+    (1..states + 1).find(
+        |&s|
+            requires { Leads words.now index.now s (exit_count index.now s) }
+        { uneven(words, index, s) },
+    )
 }

@@ -4,3 +4,4 @@ pub mod Exits
 pub mod SameWord
 pub mod FirstFault
 pub mod Parts
+pub mod KindNumbers

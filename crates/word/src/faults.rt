@@ -1,7 +1,8 @@
-// Tests of one word, each handed its place and the part of the words that begins at it, or, where its kind is known, the word itself.
+// Tests of one word, each handed its place and the part of the words that begins at it, or, where its kind is known, the word itself. A part that passes
+// has a word.
 #![tactic(auto, unfolding(crate::specs::Internal::Tests::first_fault, crate::specs::Internal::Tests::word_answer))]
 
-ghost use Rattle.std.specs.Prelude.{◌≡◌, true, false, MatchResult, get_or};
+ghost use Rattle.std.specs.Prelude.{◌<◌, ◌≡◌, true, false, length, MatchResult, OnOk};
 ghost use Rattle.word.specs.Faults as faults;
 ghost use Rattle.word.specs.Kinds.{kind_number};
 ghost use Rattle.word.specs.Internal.Tests.{answer, first_fault, word_answer, field_faults, FirstOfKind};
@@ -31,7 +32,8 @@ fn first(part: &[u32], at: usize, kind: Kind) -> Result<u32, Refusal>
 }
 
 pub fn head(part: &[u32], at: usize) -> Result<(), Refusal>
-    ensures { answer result ≡ word_answer faults.head_faults at part.now }
+    ensures fault { answer result ≡ word_answer faults.head_faults at part.now }
+    ensures inside { OnOk result (0 < length part.now) }
 {
     let w = first(part, at, Kind::Head)?;
     ensure(edition(w) == 1, Refusal::FieldOutOfRange(at))?;
@@ -42,7 +44,8 @@ pub fn head(part: &[u32], at: usize) -> Result<(), Refusal>
 
 // A quantity of this kind: its scale is at most `most`, its coefficient from `least` to 999,999.
 pub fn quantity(part: &[u32], at: usize, kind: Kind, most: u32, least: usize) -> Result<(), Refusal>
-    ensures { answer result ≡ word_answer (faults.quantity_faults (kind_number kind) most least) at part.now }
+    ensures fault { answer result ≡ word_answer (faults.quantity_faults (kind_number kind) most least) at part.now }
+    ensures inside { OnOk result (0 < length part.now) }
 {
     let w = first(part, at, kind)?;
     let c = coefficient(w) as usize;
@@ -51,7 +54,8 @@ pub fn quantity(part: &[u32], at: usize, kind: Kind, most: u32, least: usize) ->
 }
 
 pub fn caps(part: &[u32], at: usize) -> Result<(), Refusal>
-    ensures { answer result ≡ word_answer faults.caps_faults at part.now }
+    ensures fault { answer result ≡ word_answer faults.caps_faults at part.now }
+    ensures inside { OnOk result (0 < length part.now) }
 {
     let w = first(part, at, Kind::Caps)?;
     ensure(caps_rest(w) == 0, Refusal::BitSet(at))?;
@@ -87,7 +91,8 @@ pub fn transition(w: u32, place: usize, states: usize) -> Result<(), Refusal>
 
 // The end's word, whose kind is known: no other bit is set.
 pub fn end(part: &[u32], at: usize) -> Result<(), Refusal>
-    ensures { answer result ≡ word_answer faults.end_faults at part.now }
+    ensures fault { answer result ≡ word_answer faults.end_faults at part.now }
+    ensures inside { OnOk result (0 < length part.now) }
 {
     let Some(&w) = part.first() else {
         return Err(Refusal::WrongKind(at));

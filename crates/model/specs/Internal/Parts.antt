@@ -1,24 +1,17 @@
 -- What the functions below the code's `read` promise one another, in the terms of Reading and Faults. No other crate sees these functions, and
 -- `read`'s own promise, in Promise, names nothing of this file. Assumes nothing: these are definitions.
-use Rattle.std.specs.Prelude.{ℕ, zero, suc, ◌+◌, ◌*◌, ◌≤◌, ◌<◌, ◌≡◌, Bool, true, false, not, ◌&&◌, ◌||◌, ◌⊎◌, List, [], ◌∷◌, length, get_or, drop, set, leb, eqb}
+use Rattle.std.specs.Prelude.{ℕ, zero, suc, ◌+◌, ◌*◌, ◌≤◌, ◌<◌, ◌≡◌, Bool, true, false, not, ◌&&◌, ◌||◌, ◌⊎◌, List, [], ◌∷◌, length, get_or, drop, set, leb, eqb, Option, Result}
+use Rattle.std.specs.Prelude.{MatchOption, MatchResult}
 use Rattle.word.specs.declared.Refusal.{Refusal}
-use Rattle.word.specs.declared.Verdict.{Verdict}
-use Rattle.word.specs.declared.Verdict.TheVariants.{Fine, Refused as refusal}
-use Rattle.word.specs.Model.{Transition, Net, Model, any, one_if, is_named, exits, has_fast, probability_sum}
+use Rattle.word.specs.Model.{Transition, Model, any, one_if, is_named, exits, has_fast, probability_sum}
 use Rattle.word.specs.Words.{kind, from_field}
 use Rattle.word.specs.Faults.{Fault, ◌gives◌, differs, head_faults, quantity_faults, caps_faults}
 use Rattle.word.specs.Answer.{Answer, refused, granted, then}
 use Rattle.word.specs.Internal.Tests.{word_answer, TransitionWord}
 use Rattle.word.specs.Refusal.{number, place}
 use Rattle.model.specs.declared.Accepted.{Accepted}
-use Rattle.model.specs.declared.Reading.{Reading}
-use Rattle.model.specs.declared.opening.Opening.{Opening}
-use Rattle.model.specs.declared.opening.Opening.TheVariants.{Opened, Refused as unopened}
-use Rattle.model.specs.declared.named.Naming.{Naming}
-use Rattle.model.specs.declared.named.Naming.TheVariants.{From, Refused as unnamed}
-use Rattle.model.specs.declared.transitions.Step.{Step}
-use Rattle.model.specs.declared.transitions.Step.TheVariants.{To, End, Refused as stopped}
-use Rattle.model.specs.Reading.{at_head, at_named, at_transition, last_of, read_from, most_words}
+use Rattle.model.specs.Reading.{at_head, at_named, at_transition, last_of, read_from, most_words, read}
+use Rattle.model.specs.Reasons.{Called, NoneBelow, IsLowest}
 use Rattle.model.specs.Index.{transition_at, slot, exit_count, place_of, named_flag, Indexed}
 use Rattle.model.specs.Promise.{summary, Answers}
 
@@ -75,9 +68,21 @@ room_faults ws index n known w =
 abbrev pub sums_uneven : List Transition → Bool
 sums_uneven ts = has_fast ts && differs (probability_sum ts) 1000000000000
 
--- the exits of each state are what its slots lead to
-abbrev pub Through : List ℕ → List ℕ → ℕ → Net → Type 0
-Through ws index states net = (s : ℕ) → s ≤ states → exits net s ≡ slot_transitions ws index s (exit_count index s)
+-- the sum of the probabilities of the fast ones of these exits, none where none is fast
+abbrev pub IsFastSum : List Transition → Option ℕ → Type 0
+IsFastSum ts r = MatchOption r (has_fast ts ≡ false) (λ sum. (has_fast ts ≡ true) × (sum ≡ probability_sum ts))
+
+-- whether the fast exits of the state s have such probabilities, by the index
+abbrev pub uneven_by : List ℕ → List ℕ → ℕ → Bool
+uneven_by ws index s = sums_uneven (slot_transitions ws index s (exit_count index s))
+
+-- whether the state s is named and has exits, by the index
+abbrev pub leads_on_by : List ℕ → ℕ → Bool
+leads_on_by index s = eqb (named_flag index s) 1 && not (eqb (exit_count index s) 0)
+
+-- the lowest of the states from 1 to `states` that passes a test, none where none does
+abbrev pub IsLowestOf : (ℕ → Bool) → ℕ → Option ℕ → Type 0
+IsLowestOf test states r = MatchOption r (NoneBelow test (suc states)) (IsLowest test states)
 
 -- the index with one exit more of the state s: the transition j, whose word stands at place i
 abbrev pub entered : List ℕ → ℕ → ℕ → ℕ → List ℕ
@@ -115,11 +120,10 @@ Ended a ws index = Filled a ws index (λ m. read_from at_head 0 ws ≡ granted m
 abbrev pub Stopped : List ℕ → Refusal → Type 0
 Stopped ws f = read_from at_head 0 ws ≡ refused (number f) (place f)
 
--- What one turn of the loop over the transitions says, from place i on.
-abbrev pub Stepped : Accepted → List ℕ → ℕ → ℕ → List ℕ → Step → Type 0
-Stepped a ws i known index (To j) = (i < j) × Begun a ws j (known + 1) index
-Stepped a ws i known index End = Ended a ws index
-Stepped a ws i known index (stopped f) = Stopped ws f
+-- What one turn of the loop over the transitions says, from place i on: the place of the next, none behind the end, or a refusal.
+abbrev pub Stepped : Accepted → List ℕ → ℕ → ℕ → List ℕ → Result (Option ℕ) Refusal → Type 0
+Stepped a ws i known index r =
+    MatchResult r (λ behind. MatchOption behind (Ended a ws index) (λ j. (i < j) × Begun a ws j (known + 1) index)) (Stopped ws)
 
 -- the word at place i is of kind 5 or 7
 pub record AtTransition (a : Accepted) (ws : List ℕ) (i known : ℕ) (index : List ℕ) : Type 0 where
@@ -139,20 +143,19 @@ pub record Passes (a : Accepted) (ws : List ℕ) (i known : ℕ) (index : List �
   pub few : known < 4000
   pub next : Begun a ws (i + words_taken (get_or ws i 0)) (known + 1) (entered index (from_field (get_or ws i 0)) known i)
 
-abbrev pub Tested : Accepted → List ℕ → ℕ → ℕ → List ℕ → Verdict → Type 0
-Tested a ws i known index Fine = Passes a ws i known index
-Tested a ws i known index (refusal f) = Stopped ws f
+abbrev pub Tested : Accepted → List ℕ → ℕ → ℕ → List ℕ → Result (Unit {0}) Refusal → Type 0
+Tested a ws i known index r = MatchResult r (λ _. Passes a ws i known index) (Stopped ws)
 
 -- What the end's word at place i says, whatever model has been read.
-abbrev pub EndsAs : List ℕ → ℕ → Step → Type 0
-EndsAs ws i (To j) = ⊥
-EndsAs ws i End = (m : Model) → kind (get_or ws i 0) ≡ 15 → read_from (at_transition m) i (drop i ws) ≡ granted m
-EndsAs ws i (stopped f) = (m : Model) → kind (get_or ws i 0) ≡ 15 → read_from (at_transition m) i (drop i ws) ≡ refused (number f) (place f)
+abbrev pub EndsAs : List ℕ → ℕ → Result (Unit {0}) Refusal → Type 0
+EndsAs ws i r =
+    (m : Model) → kind (get_or ws i 0) ≡ 15
+    → MatchResult r (λ _. read_from (at_transition m) i (drop i ws) ≡ granted m)
+    (λ f. read_from (at_transition m) i (drop i ws) ≡ refused (number f) (place f))
 
 -- What the loop over the transitions says.
-abbrev pub Listed : Accepted → List ℕ → List ℕ → Verdict → Type 0
-Listed a ws index Fine = Ended a ws index
-Listed a ws index (refusal f) = Stopped ws f
+abbrev pub Listed : Accepted → List ℕ → List ℕ → Result (Unit {0}) Refusal → Type 0
+Listed a ws index r = MatchResult r (λ _. Ended a ws index) (Stopped ws)
 
 -- What the first four words say.
 pub record IsOpened (ws : List ℕ) (a : Accepted) : Type 0 where
@@ -165,9 +168,8 @@ pub record IsOpened (ws : List ℕ) (a : Accepted) : Type 0 where
   pub states_high : model.states ≤ 1000
   pub start_high : model.net.start ≤ model.states
 
-abbrev pub OpensAs : List ℕ → Opening → Type 0
-OpensAs ws (Opened a) = IsOpened ws a
-OpensAs ws (unopened f) = Stopped ws f
+abbrev pub OpensAs : List ℕ → Result Accepted Refusal → Type 0
+OpensAs ws r = MatchResult r (IsOpened ws) (Stopped ws)
 
 -- The words up to place i have been read: the first four, and behind them words that name states, `count` of them, the last of them `last` (0 if there
 -- is none). The index has these states' flags and nothing else.
@@ -187,14 +189,13 @@ pub record NamedUpTo (a : Accepted) (ws : List ℕ) (i last count : ℕ) (index 
   pub named_are : (s : ℕ) → s ≤ 1000 → named_flag index s ≡ one_if (is_named model.net s)
 
 -- What the loop over the words that name states says: the transitions begin at place i.
-abbrev pub NamedAs : Accepted → List ℕ → List ℕ → Naming → Type 0
-NamedAs a ws index (From i) = Begun a ws i 0 index
-NamedAs a ws index (unnamed f) = Stopped ws f
+abbrev pub NamedAs : Accepted → List ℕ → List ℕ → Result ℕ Refusal → Type 0
+NamedAs a ws index r = MatchResult r (λ i. Begun a ws i 0 index) (Stopped ws)
 
--- whether the state s is named and has exits, by the index
-abbrev pub leads_on_by : List ℕ → ℕ → Bool
-leads_on_by index s = eqb (named_flag index s) 1 && not (eqb (exit_count index s) 0)
+-- What the caller's two tests say, 1 and 2.
+abbrev pub CalledAs : List ℕ → ℕ → Result (Unit {0}) Refusal → Type 0
+CalledAs ws budget r = MatchResult r (λ _. Called ws budget) (λ f. read ws budget ≡ refused (number f) (place f))
 
 -- What the tests after the end say, once the caller's two tests are passed.
-abbrev pub Concluded : List ℕ → List ℕ → Reading → Type 0
-Concluded ws index r = (budget : ℕ) → length ws ≤ most_words → 1 ≤ budget → budget ≤ 1000000 → Answers ws budget index r
+abbrev pub Concluded : List ℕ → List ℕ → Result Accepted Refusal → Type 0
+Concluded ws index r = (budget : ℕ) → Called ws budget → Answers ws budget index r

@@ -1,5 +1,4 @@
-use Prim.Native.Nat.{◌-◌}
-use lib.ListN.{length}
+use Rattle.std.proofs.Common.{◌-◌, length}
 use Rattle.model.specs.Internal.Parts.{Begun}
 use Rattle.model.proofs.transitions.list.Given as goal
 

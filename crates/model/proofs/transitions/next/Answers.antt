@@ -1,36 +1,29 @@
 -- `model::transitions::next` meets its contract. Assumes nothing.
-use mathlib.Core.Path.{◌≡◌, sym, ap, ◌∙◌}
-use mathlib.Core.Logic.{inl, inr}
-use lib.ListN.{get_or}
+use Rattle.std.proofs.Common.{◌≡◌, sym, ap, ◌∙◌, get_or}
+use borrow.Author.Tests.{ltb-false}
+use Rattle.word.specs.declared.kinds.Kind.TheVariants.{SlowTransition, FastTransition, End}
 use Rattle.word.specs.Words.{kind}
-use Rattle.word.proofs.Parts.{part_word}
-use Rattle.model.proofs.Turn.{turn_out, turn_other, turn_end}
+use Rattle.word.specs.Kinds.{kind_number}
+use Rattle.word.proofs.KindNumbers.{neither_transition_nor_end}
+use Rattle.model.proofs.Turn.{turn_out, turn_other}
 use Rattle.model.proofs.transitions.next.Goals as goal
 
-pub returns-then-words-at : goal.returns-then-words-at
-returns-then-words-at c = turn_out _ _ _ _ _ c.requires.begun c.if-words-at.true
+pub returns-in_default : goal.returns-in_default
+returns-in_default c = turn_out _ _ _ _ _ c.requires.begun (ltb-false _ _ (sym c.in_default.ensures.lookup.0))
 
-pub transition-requires : goal.transition-requires
-transition-requires c =
-    let kind_is : c.kind-k.result ≡ kind (get_or c.args.words.now c.args.at 0) = c.kind-k.ensures ∙ ap kind
-    (c.word_at.ensures ∙ part_word c.args.words.now c.args.at) in
-    record { begun = c.requires.begun; short = c.requires.words_len_bound; inside = c.if-words-at.false; kind_is = inl (sym kind_is ∙ c.if-k-eq5.true) }
+pub returns-in_default-of : goal.returns-in_default-of
+returns-in_default-of c =
+    let there = c.in-Some.ensures.lookup.3 in
+    let is : kind (get_or c.args.words.now c.args.at 0) ≡ kind c.in-Some.field-0.now = ap kind (sym (there.1 0)) in
+    turn_other _ _ _ _ _ c.requires.begun there.0
+    (λ e. c.in_default-of.ensures SlowTransition (sym e ∙ is))
+    (λ e. c.in_default-of.ensures FastTransition (sym e ∙ is))
+    (λ e. c.in_default-of.ensures End (sym e ∙ is))
 
-pub transition-requires-then-k-eq7 : goal.transition-requires-then-k-eq7
-transition-requires-then-k-eq7 c =
-    let kind_is : c.kind-k.result ≡ kind (get_or c.args.words.now c.args.at 0) = c.kind-k.ensures ∙ ap kind
-    (c.word_at.ensures ∙ part_word c.args.words.now c.args.at) in
-    record { begun = c.requires.begun; short = c.requires.words_len_bound; inside = c.if-words-at.false; kind_is = inr (sym kind_is ∙ c.if-k-eq7.true) }
-
-pub returns-then-k-eq15 : goal.returns-then-k-eq15
-returns-then-k-eq15 c =
-    let kind_is : c.kind-k.result ≡ kind (get_or c.args.words.now c.args.at 0) = c.kind-k.ensures ∙ ap kind
-    (c.word_at.ensures ∙ part_word c.args.words.now c.args.at) in
-    turn_end _ _ _ _ _ c.requires.begun (sym kind_is ∙ c.if-k-eq15.true) c.end.result c.end.ensures
-
-pub returns : goal.returns
-returns c =
-    let kind_is : c.kind-k.result ≡ kind (get_or c.args.words.now c.args.at 0) = c.kind-k.ensures ∙ ap kind
-    (c.word_at.ensures ∙ part_word c.args.words.now c.args.at) in
-    let is = kind_is in turn_other _ _ _ _ _ c.requires.begun c.if-words-at.false (λ e. c.if-k-eq5.false (is ∙ e)) (λ e. c.if-k-eq7.false (is ∙ e))
-    (λ e. c.if-k-eq15.false (is ∙ e))
+pub returns-in_default-kind : goal.returns-in_default-kind
+returns-in_default-kind c =
+    let there = c.in-Some.ensures.lookup.3 in
+    let is : kind_number c.in-Some-of.kind ≡ kind (get_or c.args.words.now c.args.at 0) =
+    c.in-Some-of.ensures ∙ ap kind (there.1 0) in
+    let no = neither_transition_nor_end _ c.in_default-kind.not-SlowTransition c.in_default-kind.not-FastTransition c.in_default-kind.not-End in
+    turn_other _ _ _ _ _ c.requires.begun there.0 (λ e. no.0 (is ∙ e)) (λ e. no.1 (is ∙ e)) (λ e. no.2 (is ∙ e))
