@@ -7,8 +7,7 @@ use mathlib.Core.List.{List, [], ◌∷◌, ◌++◌}
 use native.Mathlib.Numerals.{add-one}
 use native.Mathlib.Omega.{arith}
 use native.Mathlib.Decide.{dec_le, ℕ_discrete}
-use lib.ListN.{length, get_or, drop, set, replicate, length-append, length-set, length-replicate, get_or-replicate, get_or-eq_default}
-use lib.Seq.{get_or-set_same, get_or-set_other}
+use lib.ListN.{length, get_or, drop, length-append, get_or-eq_default}
 use lib.Dec.{eqb}
 use borrow.Author.Tests.{eq-eqb, ne_eqb, leb-false}
 use Rattle.word.specs.Model.{Model, any, one_if, is_named}
@@ -17,10 +16,11 @@ use Rattle.word.specs.Faults.{Fault, named_faults}
 use Rattle.word.specs.Answer.{refused, granted}
 use Rattle.word.specs.Internal.Tests.{first_fault}
 use Rattle.model.specs.declared.Accepted.{Accepted}
+use Rattle.model.specs.declared.index.Index.{Index}
 use Rattle.model.specs.Reading.{at_head, at_named, at_transition, last_of, with_named, Next, wrong, right, unless}
 use Rattle.model.specs.Reading.{next_transition, next_named, next, at_words_end, read_from}
-use Rattle.model.specs.Index.{named_flag}
-use Rattle.model.specs.Internal.Parts.{Begun, IsOpened, NamedUpTo}
+use Rattle.model.specs.Index.{named_flag, IsEmpty}
+use Rattle.model.specs.Internal.Parts.{Begun, IsOpened, NamedUpTo, NamesOneMore}
 use Rattle.word.proofs.Exits.{exits_fewer}
 use Rattle.word.proofs.Tests.{inside}
 use Rattle.word.proofs.FirstFault.{first_granted_tail}
@@ -52,27 +52,27 @@ module _ {A : Type 0} (test : A → Bool) where
   any_others (y ∷ ys) x e = ap (λ (b : Bool). test y || b) (any_others ys x e)
 
 -- the flags, once one more is set
-flags_more : (m : Model) (index : List ℕ) (s : ℕ) → length index ≡ 22018 → s ≤ 1000
+flags_more : (m : Model) (index new : Index) (s : ℕ) → NamesOneMore index new s
     → ((k : ℕ) → k ≤ 1000 → named_flag index k ≡ one_if (is_named m.net k))
-    → (k : ℕ) → k ≤ 1000 → named_flag (set index (21017 + s) 1) k ≡ one_if (is_named (with_named m s).net k)
+    → (k : ℕ) → k ≤ 1000 → named_flag new k ≡ one_if (is_named (with_named m s).net k)
 unfolding is_named
-flags_more m index s long small flags k low = go (ℕ_discrete k s)
+flags_more m index new s one flags k low = go (ℕ_discrete k s)
   where
-    go : Dec (k ≡ s) → named_flag (set index (21017 + s) 1) k ≡ one_if (any (λ n. eqb n k) (m.net.named ++ (s ∷ [])))
+    go : Dec (k ≡ s) → named_flag new k ≡ one_if (any (λ n. eqb n k) (m.net.named ++ (s ∷ [])))
     go (yes e) =
-        ap (named_flag (set index (21017 + s) 1)) e
-        ∙ get_or-set_same index (21017 + s) 1 0 (omega arith)
+        ap (named_flag new) e
+        ∙ one.flag_new
         ∙ ap one_if (sym (any_last (λ (n : ℕ). eqb n k) m.net.named s (eq-eqb s k (sym e))))
     go (no n) =
-        get_or-set_other index (21017 + s) (21017 + k) 1 0 (omega arith)
+        one.flag_other k n
         ∙ flags k low
         ∙ ap one_if (sym (any_others (λ (n : ℕ). eqb n k) m.net.named s (ne_eqb s k (λ e. n (sym e)))))
 
 -- ---- before the first turn
 
-pub naming_begins : (a : Accepted) (ws : List ℕ) → IsOpened ws a → NamedUpTo a ws 4 0 0 (replicate 22018 0)
+pub naming_begins : (a : Accepted) (ws : List ℕ) (index : Index) → IsOpened ws a → IsEmpty index → NamedUpTo a ws 4 0 0 index
 unfolding is_named any last_of
-naming_begins a ws opened = record {
+naming_begins a ws index opened empty = record {
   model = opened.model;
   fields = opened.fields;
   empty = opened.empty;
@@ -83,14 +83,13 @@ naming_begins a ws opened = record {
   count_few = omega arith;
   states_high = opened.states_high;
   start_high = opened.start_high;
-  long = length-replicate {A = ℕ} 22018 0;
-  no_exits = λ s small. get_or-replicate 22018 (16016 + s) 0 0 (omega arith);
-  named_are = λ s small. get_or-replicate 22018 (21017 + s) 0 0 (omega arith) ∙ rw opened.none_named;
+  no_exits = empty.no_exits;
+  named_are = λ s small. empty.none_named s small ∙ rw opened.none_named;
 }
 
 -- ---- a turn: the word w stands at place i
 
-module _ (a : Accepted) (ws : List ℕ) (i last count : ℕ) (index : List ℕ) (so_far : NamedUpTo a ws i last count index)
+module _ (a : Accepted) (ws : List ℕ) (i last count : ℕ) (index : Index) (so_far : NamedUpTo a ws i last count index)
     (w : ℕ) (word_is : w ≡ get_or ws i 0) where
   abbrev m : Model
   m = so_far.model
@@ -143,8 +142,8 @@ module _ (a : Accepted) (ws : List ℕ) (i last count : ℕ) (index : List ℕ) 
             let (room, _) = first_granted_tail _ _ i after-order in
             leb-false 100 count room
 
-        pub name_passes : NamedUpTo a ws (i + 1) (named_field w) (count + 1) (set index (21017 + named_field w) 1)
-        name_passes = record {
+        pub name_passes : (new : Index) → NamesOneMore index new (named_field w) → NamedUpTo a ws (i + 1) (named_field w) (count + 1) new
+        name_passes new one = record {
           model = with_named m (named_field w);
           fields = so_far.fields;
           empty = so_far.empty;
@@ -155,9 +154,8 @@ module _ (a : Accepted) (ws : List ℕ) (i last count : ℕ) (index : List ℕ) 
           count_few = omega (arith, names_few);
           states_high = so_far.states_high;
           start_high = so_far.start_high;
-          long = length-set index (21017 + named_field w) 1 ∙ so_far.long;
-          no_exits = λ s small. get_or-set_other index (21017 + named_field w) (16016 + s) 1 0 (omega arith) ∙ so_far.no_exits s small;
-          named_are = flags_more m index (named_field w) so_far.long state_small so_far.named_are;
+          no_exits = λ s small. one.counts s ∙ so_far.no_exits s small;
+          named_are = flags_more m index new (named_field w) one so_far.named_are;
         }
 
   -- ---- behind the last turn
@@ -189,7 +187,6 @@ module _ (a : Accepted) (ws : List ℕ) (i last count : ℕ) (index : List ℕ) 
       far = record { reads = so_far.reads ∙ reads_on; inside = so_far.inside; number = none };
       states_high = so_far.states_high;
       start_high = so_far.start_high;
-      long = so_far.long;
       few = omega (arith, none);
       few_exits = λ s. omega (arith, exits_fewer m.net.table s, none);
       transitions = λ j more. let no : ⊥ = omega (arith, more, none) in absurd no;

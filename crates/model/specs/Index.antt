@@ -1,8 +1,11 @@
--- The index of exits that reading fills into a lent array, and what its entries mean. The walk and its tables find a state's exits by it.
+-- The index of exits that reading fills into a lent value, the code's struct `Index`, and what its entries mean. The walk and its tables find a state's exits by it.
 -- Assumes nothing: these are definitions.
-use Rattle.std.specs.Prelude.{ℕ, suc, ◌+◌, ◌*◌, ◌≤◌, ◌<◌, ◌≡◌, true, false, List, [], ◌∷◌, length, get_or, drop, eqb}
+use Rattle.std.specs.Prelude.{ℕ, suc, ◌+◌, ◌≤◌, ◌<◌, ◌≡◌, true, false, List, [], ◌∷◌, length, get_or, take, drop, replicate, eqb}
+use lib.Dec.{lit≤}
 use Rattle.word.specs.Model.{Manner, slow, fast, Transition, Net, Model, one_if, is_named, leaves, exits}
 use Rattle.word.specs.Words.{kind, from_field, to_field, quantity}
+use Rattle.model.specs.declared.exits.StateExits.{StateExits}
+use Rattle.model.specs.declared.index.Index.{Index}
 
 -- The indexes, from i on, of a table's transitions that leave s, in table order. Transitions are counted from 0.
 unfoldable pub exit_indexes : List Transition → ℕ → ℕ → List ℕ
@@ -39,26 +42,42 @@ no_transition = record { from = 0; to = 0; manner = slow (quantity 0) }
 abbrev pub transition : Net → ℕ → Transition
 transition net j = get_or net.table j no_transition
 
--- ---- the array: 16 slots for each state from 0 to 1,000, a number of exits for each of them, a place for each transition, a flag for each state
+-- ---- the index: for each state from 0 to 1,000 its exits and its flag, a place for each transition
+
+-- the exits of the state s; past the last state, none
+abbrev no_exits : StateExits
+no_exits = record { slots = replicate 16 0; count = 0; named = false; few = lit≤ tt }
+
+abbrev pub exits_at : Index → ℕ → StateExits
+exits_at index s = get_or index.states s no_exits
 
 -- what slot i of the state s holds: the index of its exit i
-abbrev pub slot : List ℕ → ℕ → ℕ → ℕ
-slot index s i = get_or index (s * 16 + i) 0
+abbrev pub slot : Index → ℕ → ℕ → ℕ
+slot index s i = get_or (exits_at index s).slots i 0
 
 -- the number of exits of the state s
-abbrev pub exit_count : List ℕ → ℕ → ℕ
-exit_count index s = get_or index (16016 + s) 0
+abbrev pub exit_count : Index → ℕ → ℕ
+exit_count index s = (exits_at index s).count
+
+-- the indexes of its exits
+abbrev pub exits_of : Index → ℕ → List ℕ
+exits_of index s = take (exit_count index s) (exits_at index s).slots
 
 -- the place of the word of transition j
-abbrev pub place_of : List ℕ → ℕ → ℕ
-place_of index j = get_or index (17017 + j) 0
+abbrev pub place_of : Index → ℕ → ℕ
+place_of index j = get_or index.places j 0
 
 -- the flag of the state s: 1 if it is one of the generator's, else 0
-abbrev pub named_flag : List ℕ → ℕ → ℕ
-named_flag index s = get_or index (21017 + s) 0
+abbrev pub named_flag : Index → ℕ → ℕ
+named_flag index s = one_if (exits_at index s).named
+
+-- no state has exits, and none is one of the generator's
+pub record IsEmpty (index : Index) : Type 0 where
+  pub no_exits : (s : ℕ) → s ≤ 1000 → exit_count index s ≡ 0
+  pub none_named : (s : ℕ) → s ≤ 1000 → named_flag index s ≡ 0
 
 -- The index of a model's words. What a slot past a state's number of exits holds, and the place of a transition past the table's end, is free.
-pub record Indexed (m : Model) (ws index : List ℕ) : Type 0 where
+pub record Indexed (m : Model) (ws : List ℕ) (index : Index) : Type 0 where
   pub counts_are : (s : ℕ) → s ≤ 1000 → exit_count index s ≡ length (exits m.net s)
   pub slots_are : (s i : ℕ) → s ≤ 1000 → i < length (exits m.net s) → slot index s i ≡ get_or (exit_indexes m.net.table 0 s) i 0
   pub places_are : (j : ℕ) → j < length m.net.table → Stands ws (place_of index j) (transition m.net j)

@@ -2,7 +2,7 @@
 ghost use Rattle.model.specs.Internal.Parts.{Ended, Concluded};
 
 use crate::Accepted;
-use crate::index::{Index, exit_count};
+use crate::index::Index;
 use crate::named::lowest_leading_on;
 use crate::probabilities::lowest_uneven;
 use word::Refusal;
@@ -19,7 +19,7 @@ pub(crate) fn concluded(words: &[u32], a: Accepted, index: &Index) -> Result<Acc
         return Err(Refusal::NamedStateWithExits(s));
     }
     let start = a.start;
-    let goes_on = exit_count(index, start) != 0;
+    let goes_on = index.exit_count(start) != 0;
     ensure(goes_on, Refusal::StartWithoutExits(start))?;
     Ok(a)
 }

@@ -2,6 +2,7 @@
 #![tactic(auto)]
 
 mod conclusion;
+pub mod exits;
 pub mod index;
 mod named;
 mod opening;
@@ -42,8 +43,8 @@ fn called(words: &[u32], budget: u64) -> Result<(), Refusal>
     ensure((1..=1_000_000).contains(&budget), Refusal::BudgetOutOfRange)
 }
 
-// Reads a model's words to their end or to the first fault, tests 1 to 11, 15 and 16, and fills the index of its exits into the lent array, whatever
-// it held. On a refusal what the array then holds is free.
+// Reads a model's words to their end or to the first fault, tests 1 to 11, 15 and 16, and fills the lent index of its exits, whatever
+// it held. On a refusal what the index then holds is free.
 pub fn read(words: &[u32], budget: u64, index: &mut Index) -> Result<Accepted, Refusal>
     ensures { Promised words.now words.now budget index.new result }
 {

@@ -4,7 +4,7 @@ ghost use Rattle.model.specs.Reading.{most_words};
 ghost use Rattle.model.specs.Internal.Parts.{IsOpened, NamedAs, IsLowestOf, leads_on_by};
 
 use crate::Accepted;
-use crate::index::{Index, clear, exit_count, is_named, name};
+use crate::index::Index;
 use word::fields::{named_state, word_at};
 use word::kinds::Kind;
 use word::{Refusal, faults};
@@ -16,7 +16,7 @@ pub(crate) fn name_states(words: &[u32], a: Accepted, index: &mut Index) -> Resu
     requires words_len_bound { length words.now ≤ most_words }
     ensures { NamedAs a words.now index.new result }
 {
-    clear(index);
+    index.clear();
     let states = a.states;
     let mut at: usize = 4;
     let mut last: usize = 0;
@@ -28,7 +28,7 @@ pub(crate) fn name_states(words: &[u32], a: Accepted, index: &mut Index) -> Resu
         }
         faults::named(w, at, states, last, count)?;
         last = named_state(w);
-        name(index, last);
+        index.name(last);
         count += 1;
         at += 1;
     }
@@ -39,7 +39,7 @@ fn leads_on(index: &Index, s: usize) -> bool
     requires { s ≤ 1000 }
     ensures { result ≡ leads_on_by index.now s }
 {
-    is_named(index, s) && exit_count(index, s) != 0
+    index.is_named(s) && index.exit_count(s) != 0
 }
 
 // The lowest such state of 1 to `states`.

@@ -10,7 +10,7 @@ ghost use Rattle.model.specs.Internal.Parts.{
   Leads,
 };
 
-use crate::index::{Index, exit_count, slot_place};
+use crate::index::Index;
 use word::fields::{is_fast, quantity_at, word_at};
 
 // The probability at the part's first word, as a whole number of 10^-12.
@@ -30,7 +30,7 @@ fn fast_sum(words: &[u32], index: &Index, s: usize, n: usize) -> Option<u64>
 {
     let mut sum = None;
     for i in 0..n {
-        let at = slot_place(index, s, i);
+        let at = index.slot_place(s, i);
         if is_fast(word_at(&words[at..])) {
             let third = at + 3;
             sum = Some(sum.unwrap_or(0) + units(&words[third..]));
@@ -44,7 +44,7 @@ fn uneven(words: &[u32], index: &Index, s: usize) -> bool
     requires { Leads words.now index.now s (exit_count index.now s) }
     ensures { result ≡ uneven_by words.now index.now s }
 {
-    let n = exit_count(index, s);
+    let n = index.exit_count(s);
     fast_sum(words, index, s, n).is_some_and(|sum| sum != 1_000_000_000_000)
 }
 

@@ -6,7 +6,7 @@ ghost use Rattle.model.specs.Reading.{most_words};
 ghost use Rattle.model.specs.Internal.Parts as parts;
 
 use crate::Accepted;
-use crate::index::{Index, enter, exit_count, stood};
+use crate::index::Index;
 use word::faults::ensure;
 use word::fields::{from, is_fast, word_at};
 use word::kinds::Kind;
@@ -25,7 +25,7 @@ fn room(
     requires { parts.Leads words.now index.now (fields.from_field w) n }
     ensures { answer result ≡ first_fault (parts.room_faults words.now index.now n known w) at }
 {
-    let new = !stood(words, index, from(w), n, w);
+    let new = !index.stood(words, from(w), n, w);
     ensure(new, Refusal::DuplicateTransition(at))?;
     ensure(n < 16 && known < 4000, Refusal::TooManyTransitions(at))
 }
@@ -53,7 +53,7 @@ fn tested(words: &[u32], a: Accepted, at: usize, known: usize, index: &Index) ->
 {
     let w = word_at(&words[at..]);
     faults::transition(w, at, a.states)?;
-    let n = exit_count(index, from(w));
+    let n = index.exit_count(from(w));
     room(words, w, at, n, known, index)?;
     body(words, at + 1, is_fast(w))
 }
@@ -71,7 +71,7 @@ fn transition(
 {
     tested(words, a, at, known, index)?;
     let w = word_at(&words[at..]);
-    enter(index, from(w), known, at);
+    index.enter(from(w), known, at);
     Ok(Some(if is_fast(w) { at + 4 } else { at + 2 }))
 }
 

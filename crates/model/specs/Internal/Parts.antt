@@ -1,6 +1,6 @@
 -- What the functions below the code's `read` promise one another, in the terms of Reading and Faults. No other crate sees these functions, and
 -- `read`'s own promise, in Promise, names nothing of this file. Assumes nothing: these are definitions.
-use Rattle.std.specs.Prelude.{ℕ, zero, suc, ◌+◌, ◌*◌, ◌≤◌, ◌<◌, ◌≡◌, Bool, true, false, not, ◌&&◌, ◌||◌, ◌⊎◌, List, [], ◌∷◌, length, get_or, drop, set, leb, eqb, Option, Result}
+use Rattle.std.specs.Prelude.{ℕ, zero, suc, ◌+◌, ◌≤◌, ◌<◌, ◌≡◌, ◌≢◌, Bool, true, false, not, ◌&&◌, ◌||◌, ◌⊎◌, List, [], ◌∷◌, length, get_or, drop, leb, eqb, Option, Result}
 use Rattle.std.specs.Prelude.{MatchOption, MatchResult}
 use Rattle.word.specs.declared.Refusal.{Refusal}
 use Rattle.word.specs.Model.{Transition, Model, any, one_if, is_named, exits, has_fast, probability_sum}
@@ -10,6 +10,7 @@ use Rattle.word.specs.Answer.{Answer, refused, granted, then}
 use Rattle.word.specs.Internal.Tests.{word_answer, TransitionWord}
 use Rattle.word.specs.Refusal.{number, place}
 use Rattle.model.specs.declared.Accepted.{Accepted}
+use Rattle.model.specs.declared.index.Index.{Index}
 use Rattle.model.specs.Reading.{at_head, at_named, at_transition, last_of, read_from, most_words, read}
 use Rattle.model.specs.Reasons.{Called, NoneBelow, IsLowest}
 use Rattle.model.specs.Index.{transition_at, slot, exit_count, place_of, named_flag, Indexed}
@@ -39,18 +40,18 @@ along f zero i = []
 along f (suc n) i = f i ∷ along f n (suc i)
 
 -- the place of the word that slot i of the state s leads to
-abbrev pub slot_place : List ℕ → ℕ → ℕ → ℕ
+abbrev pub slot_place : Index → ℕ → ℕ → ℕ
 slot_place index s i = place_of index (slot index s i)
 
 -- the words, and the transitions, that the first n slots of the state s lead to
-abbrev pub slot_words : List ℕ → List ℕ → ℕ → ℕ → List ℕ
+abbrev pub slot_words : List ℕ → Index → ℕ → ℕ → List ℕ
 slot_words ws index s n = along (λ i. get_or ws (slot_place index s i) 0) n 0
 
-abbrev pub slot_transitions : List ℕ → List ℕ → ℕ → ℕ → List Transition
+abbrev pub slot_transitions : List ℕ → Index → ℕ → ℕ → List Transition
 slot_transitions ws index s n = along (λ i. transition_at (drop (slot_place index s i) ws)) n 0
 
 -- The first n slots of the state s lead to transitions' words: each holds an index below 4,000, and a fast transition has its three words behind it.
-pub record Leads (ws index : List ℕ) (s n : ℕ) : Type 0 where
+pub record Leads (ws : List ℕ) (index : Index) (s n : ℕ) : Type 0 where
   pub state : s ≤ 1000
   pub few : n ≤ 16
   pub low : (i : ℕ) → i < n → slot index s i < 4000
@@ -58,7 +59,7 @@ pub record Leads (ws index : List ℕ) (s n : ℕ) : Type 0 where
   pub whole : (i : ℕ) → i < n → kind (get_or ws (slot_place index s i) 0) ≡ 7 → slot_place index s i + 3 < length ws
 
 -- tests 8 and 9 of the word w, by the index: with bits 27 to 24 zero, the same kind, from and to is the same word
-abbrev pub room_faults : List ℕ → List ℕ → ℕ → ℕ → ℕ → List Fault
+abbrev pub room_faults : List ℕ → Index → ℕ → ℕ → ℕ → List Fault
 room_faults ws index n known w =
     (any (eqb w) (slot_words ws index (from_field w) n) gives 8)
     ∷ (leb 16 n || leb 4000 known gives 9)
@@ -73,11 +74,11 @@ abbrev pub IsFastSum : List Transition → Option ℕ → Type 0
 IsFastSum ts r = MatchOption r (has_fast ts ≡ false) (λ sum. (has_fast ts ≡ true) × (sum ≡ probability_sum ts))
 
 -- whether the fast exits of the state s have such probabilities, by the index
-abbrev pub uneven_by : List ℕ → List ℕ → ℕ → Bool
+abbrev pub uneven_by : List ℕ → Index → ℕ → Bool
 uneven_by ws index s = sums_uneven (slot_transitions ws index s (exit_count index s))
 
 -- whether the state s is named and has exits, by the index
-abbrev pub leads_on_by : List ℕ → ℕ → Bool
+abbrev pub leads_on_by : Index → ℕ → Bool
 leads_on_by index s = eqb (named_flag index s) 1 && not (eqb (exit_count index s) 0)
 
 -- the lowest of the states from 1 to `states` that passes a test, none where none does
@@ -85,19 +86,31 @@ abbrev pub IsLowestOf : (ℕ → Bool) → ℕ → Option ℕ → Type 0
 IsLowestOf test states r = MatchOption r (NoneBelow test (suc states)) (IsLowest test states)
 
 -- the index with one exit more of the state s: the transition j, whose word stands at place i
-abbrev pub entered : List ℕ → ℕ → ℕ → ℕ → List ℕ
-entered index s j i = set (set (set index (s * 16 + exit_count index s) j) (16016 + s) (exit_count index s + 1)) (17017 + j) i
+pub record Entered (old new : Index) (s j i : ℕ) : Type 0 where
+  pub slot_new : slot new s (exit_count old s) ≡ j
+  pub slot_before : (n : ℕ) → n ≢ exit_count old s → slot new s n ≡ slot old s n
+  pub slot_other : (r n : ℕ) → r ≢ s → slot new r n ≡ slot old r n
+  pub count_new : exit_count new s ≡ exit_count old s + 1
+  pub count_other : (r : ℕ) → r ≢ s → exit_count new r ≡ exit_count old r
+  pub place_new : place_of new j ≡ i
+  pub place_other : (k : ℕ) → k ≢ j → place_of new k ≡ place_of old k
+  pub flags : (r : ℕ) → named_flag new r ≡ named_flag old r
+
+-- the index with one state more that is one of the generator's
+pub record NamesOneMore (old new : Index) (s : ℕ) : Type 0 where
+  pub counts : (r : ℕ) → exit_count new r ≡ exit_count old r
+  pub flag_new : named_flag new s ≡ 1
+  pub flag_other : (r : ℕ) → r ≢ s → named_flag new r ≡ named_flag old r
 
 -- ---- the reading so far
 
--- A model has been read of which `a` has the first four words and the array the index; `still` says how far.
-pub record Filled (a : Accepted) (ws index : List ℕ) (still : Model → Type 0) : Type 0 where
+-- A model has been read of which `a` has the first four words and the index its exits; `still` says how far.
+pub record Filled (a : Accepted) (ws : List ℕ) (index : Index) (still : Model → Type 0) : Type 0 where
   pub model : Model
   pub fields : a ≡ summary model
   pub far : still model
   pub states_high : model.states ≤ 1000
   pub start_high : model.net.start ≤ model.states
-  pub long : length index ≡ 22018
   pub few : length model.net.table ≤ 4000
   pub few_exits : (s : ℕ) → length (exits model.net s) ≤ 16
   pub transitions : (j : ℕ) → j < length model.net.table → TransitionWord (get_or ws (place_of index j) 0)
@@ -109,11 +122,11 @@ pub record UpTo (ws : List ℕ) (i known : ℕ) (m : Model) : Type 0 where
   pub inside : i ≤ length ws
   pub number : length m.net.table ≡ known
 
-abbrev pub Begun : Accepted → List ℕ → ℕ → ℕ → List ℕ → Type 0
+abbrev pub Begun : Accepted → List ℕ → ℕ → ℕ → Index → Type 0
 Begun a ws i known index = Filled a ws index (UpTo ws i known)
 
 -- all words have been read
-abbrev pub Ended : Accepted → List ℕ → List ℕ → Type 0
+abbrev pub Ended : Accepted → List ℕ → Index → Type 0
 Ended a ws index = Filled a ws index (λ m. read_from at_head 0 ws ≡ granted m)
 
 -- the words are refused
@@ -121,12 +134,12 @@ abbrev pub Stopped : List ℕ → Refusal → Type 0
 Stopped ws f = read_from at_head 0 ws ≡ refused (number f) (place f)
 
 -- What one turn of the loop over the transitions says, from place i on: the place of the next, none behind the end, or a refusal.
-abbrev pub Stepped : Accepted → List ℕ → ℕ → ℕ → List ℕ → Result (Option ℕ) Refusal → Type 0
+abbrev pub Stepped : Accepted → List ℕ → ℕ → ℕ → Index → Result (Option ℕ) Refusal → Type 0
 Stepped a ws i known index r =
     MatchResult r (λ behind. MatchOption behind (Ended a ws index) (λ j. (i < j) × Begun a ws j (known + 1) index)) (Stopped ws)
 
 -- the word at place i is of kind 5 or 7
-pub record AtTransition (a : Accepted) (ws : List ℕ) (i known : ℕ) (index : List ℕ) : Type 0 where
+pub record AtTransition (a : Accepted) (ws : List ℕ) (i known : ℕ) (index : Index) : Type 0 where
   pub begun : Begun a ws i known index
   pub short : length ws ≤ most_words
   pub inside : i < length ws
@@ -137,13 +150,14 @@ abbrev pub words_taken : ℕ → ℕ
 words_taken w = elim (eqb (kind w) 7) [ true ↦ 4 | false ↦ 2 ]
 
 -- What all tests of that transition say: how it goes on, once it stands in the index.
-pub record Passes (a : Accepted) (ws : List ℕ) (i known : ℕ) (index : List ℕ) : Type 0 where
+pub record Passes (a : Accepted) (ws : List ℕ) (i known : ℕ) (index : Index) : Type 0 where
   pub state : from_field (get_or ws i 0) ≤ 1000
   pub exits_few : exit_count index (from_field (get_or ws i 0)) < 16
   pub few : known < 4000
-  pub next : Begun a ws (i + words_taken (get_or ws i 0)) (known + 1) (entered index (from_field (get_or ws i 0)) known i)
+  pub next : (new : Index) → Entered index new (from_field (get_or ws i 0)) known i
+      → Begun a ws (i + words_taken (get_or ws i 0)) (known + 1) new
 
-abbrev pub Tested : Accepted → List ℕ → ℕ → ℕ → List ℕ → Result (Unit {0}) Refusal → Type 0
+abbrev pub Tested : Accepted → List ℕ → ℕ → ℕ → Index → Result (Unit {0}) Refusal → Type 0
 Tested a ws i known index r = MatchResult r (λ _. Passes a ws i known index) (Stopped ws)
 
 -- What the end's word at place i says, whatever model has been read.
@@ -154,7 +168,7 @@ EndsAs ws i r =
     (λ f. read_from (at_transition m) i (drop i ws) ≡ refused (number f) (place f))
 
 -- What the loop over the transitions says.
-abbrev pub Listed : Accepted → List ℕ → List ℕ → Result (Unit {0}) Refusal → Type 0
+abbrev pub Listed : Accepted → List ℕ → Index → Result (Unit {0}) Refusal → Type 0
 Listed a ws index r = MatchResult r (λ _. Ended a ws index) (Stopped ws)
 
 -- What the first four words say.
@@ -173,7 +187,7 @@ OpensAs ws r = MatchResult r (IsOpened ws) (Stopped ws)
 
 -- The words up to place i have been read: the first four, and behind them words that name states, `count` of them, the last of them `last` (0 if there
 -- is none). The index has these states' flags and nothing else.
-pub record NamedUpTo (a : Accepted) (ws : List ℕ) (i last count : ℕ) (index : List ℕ) : Type 0 where
+pub record NamedUpTo (a : Accepted) (ws : List ℕ) (i last count : ℕ) (index : Index) : Type 0 where
   pub model : Model
   pub fields : a ≡ summary model
   pub empty : model.net.table ≡ []
@@ -184,12 +198,11 @@ pub record NamedUpTo (a : Accepted) (ws : List ℕ) (i last count : ℕ) (index 
   pub count_few : count ≤ 100
   pub states_high : model.states ≤ 1000
   pub start_high : model.net.start ≤ model.states
-  pub long : length index ≡ 22018
   pub no_exits : (s : ℕ) → s ≤ 1000 → exit_count index s ≡ 0
   pub named_are : (s : ℕ) → s ≤ 1000 → named_flag index s ≡ one_if (is_named model.net s)
 
 -- What the loop over the words that name states says: the transitions begin at place i.
-abbrev pub NamedAs : Accepted → List ℕ → List ℕ → Result ℕ Refusal → Type 0
+abbrev pub NamedAs : Accepted → List ℕ → Index → Result ℕ Refusal → Type 0
 NamedAs a ws index r = MatchResult r (λ i. Begun a ws i 0 index) (Stopped ws)
 
 -- What the caller's two tests say, 1 and 2.
@@ -197,5 +210,5 @@ abbrev pub CalledAs : List ℕ → ℕ → Result (Unit {0}) Refusal → Type 0
 CalledAs ws budget r = MatchResult r (λ _. Called ws budget) (λ f. read ws budget ≡ refused (number f) (place f))
 
 -- What the tests after the end say, once the caller's two tests are passed.
-abbrev pub Concluded : List ℕ → List ℕ → Result Accepted Refusal → Type 0
+abbrev pub Concluded : List ℕ → Index → Result Accepted Refusal → Type 0
 Concluded ws index r = (budget : ℕ) → Called ws budget → Answers ws budget index r

@@ -12,7 +12,7 @@ use Rattle.model.proofs.Naming.{naming_begins, name_stops, state_small, name_pas
 use Rattle.model.proofs.named.name_states.Goals as goal
 
 pub loop-states-init : goal.loop-states-init
-loop-states-init c = λ a same opened. rw c.clear.ensures (naming_begins a _ opened)
+loop-states-init c = λ a same opened. naming_begins a _ _ opened c.clear.ensures
 
 pub offset_bounds-words-at : goal.offset_bounds-words-at
 offset_bounds-words-at c =
@@ -76,5 +76,5 @@ loop-states-preserved c =
     let fine : first_fault (named_faults c.args.a.states c.loop-states.last c.loop-states.count c.word_at-w.result) c.loop-states.at ≡ granted tt =
     sym c.in_ok-named.ensures in
     let word_is : c.word_at-w.result ≡ get_or c.args.words.now c.loop-states.at 0 = c.word_at-w.ensures ∙ part_word c.args.words.now c.loop-states.at in
-    λ a same opened. rw (c.name.ensures, c.named_state-last.ensures.value)
-    (name_passes _ _ _ _ _ _ (c.loop-states.invariant a same opened) c.word_at-w.result word_is twelve _ same fine)
+    λ a same opened. rw c.named_state-last.ensures.value (name_passes _ _ _ _ _ _ (c.loop-states.invariant a same opened) c.word_at-w.result word_is twelve _ same
+    fine _ (rw c.named_state-last.ensures.value at c.name.ensures))
