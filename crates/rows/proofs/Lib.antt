@@ -1,4 +1,3 @@
 pub mod RowTotals
-pub mod RowMarks
 pub mod RowNames
 pub mod RowsStored

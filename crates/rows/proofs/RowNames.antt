@@ -1,16 +1,16 @@
 -- The states that have rows, as the code finds them, are the definition's. Assumes nothing.
-use Prim.Native.Nat.{ℕ, zero, suc, ◌+◌, ◌≤◌, ◌<◌}
+use Prim.Native.Nat.{ℕ, zero, suc, ◌≤◌, ◌<◌}
 use mathlib.Core.Path.{◌≡◌, refl, sym, ap, ap₂, ◌∙◌}
 use mathlib.Core.Bool.{Bool, true, false, not, ◌&&◌, ◌||◌}
 use mathlib.Core.List.{List, [], ◌∷◌, ◌++◌}
 use native.Mathlib.Omega.{arith}
-use native.Mathlib.Nat.{lt_of_not-le}
 use native.Mathlib.Decide.{dec_le}
 use lib.Dec.{eqb}
-use lib.ListN.{length, get_or, set, replicate, length-set, length-append, get_or-append}
-use lib.Seq.{get_or-set_same, get_or-set_other, get_or-append_seam}
+use lib.ListN.{length, get_or, set, take, replicate, length-set, length-append}
+use lib.Seq.{get_or-set_same, get_or-set_other}
+use Rattle.std.proofs.lemmas.List.{append-nil}
 use borrow.Author.Tests.{eq-eqb, ne_eqb}
-use Rattle.word.specs.Model.{Transition, Net, one_if, any, numbers_from, is_named, only, exits}
+use Rattle.word.specs.Model.{Transition, Net, any, numbers_from, is_named, only, exits}
 use Rattle.word.proofs.Members.{is_empty_length, only_append, numbers_last}
 use Rattle.word.proofs.Tests.{flag_test}
 use Rattle.word.specs.Words.{to_field}
@@ -19,8 +19,9 @@ use Rattle.model.proofs.Slots.{word, stands_to}
 use Rattle.tables.proofs.Classes.{step_valid}
 use Rattle.tree.specs.Rows.{has_row, row_states}
 use Rattle.tables.specs.Internal.Described.{Indexes, described, net_of}
-use Rattle.rows.specs.Internal.Table.{row_state}
-use Rattle.rows.specs.Internal.Names.{target_among, Targets, marked, listed, Listed, Named}
+use Rattle.rows.specs.declared.table.RowTable.{RowTable}
+use Rattle.rows.specs.Internal.Table.{named_states, NoTotals, Empty, RowAdded}
+use Rattle.rows.specs.Internal.Names.{target_among, Targets, marked, listed, Named}
 
 -- ---- targets
 
@@ -51,40 +52,40 @@ module _ (s : ℕ) where
   among_all [] = refl
   among_all (t ∷ ts) = among_first t ts (length ts) ∙ ap (λ b. eqb t.to s || b) (among_all ts)
 
-all_zero : (n s : ℕ) → get_or {A = ℕ} (replicate n 0) s 0 ≡ 0
-all_zero zero s = refl
-all_zero (suc n) zero = refl
-all_zero (suc n) (suc s) = all_zero n s
+all_false : (n s : ℕ) → get_or (replicate n false) s false ≡ false
+all_false zero s = refl
+all_false (suc n) zero = refl
+all_false (suc n) (suc s) = all_false n s
 
 module _ (ts : List Transition) where
-  pub targets_none : {targets : List ℕ} → targets ≡ replicate 1001 0 → Targets ts 0 targets
+  pub targets_none : Targets ts 0 (replicate 1001 false)
   unfolding target_among
-  targets_none e = rw e (record { size = refl; marks = λ s h. all_zero 1001 s })
+  targets_none = record { size = refl; marks = λ s h. all_false 1001 s }
 
   -- one transition more, whose target is d
-  pub targets_more : {j : ℕ} {targets : List ℕ} {d : ℕ} → d ≡ (get_or ts j no_transition).to → d ≤ 1000 → Targets ts j targets
-      → Targets ts (suc j) (set targets d 1)
+  pub targets_more : {j : ℕ} {targets : List Bool} {d : ℕ} → d ≡ (get_or ts j no_transition).to → d ≤ 1000 → Targets ts j targets
+      → Targets ts (suc j) (set targets d true)
   unfolding target_among
   targets_more {j} {targets} {d} is small h = record {
-    size = length-set targets d 1 ∙ h.size;
+    size = length-set targets d true ∙ h.size;
     marks = λ s low. go s low (dec_le s d) (dec_le d s);
   }
     where
-      marked_so : (s : ℕ) (b : Bool) → get_or (set targets d 1) s 0 ≡ one_if (target_among ts j s || b) → eqb d s ≡ b
-          → get_or (set targets d 1) s 0 ≡ one_if (target_among ts j s || eqb (get_or ts j no_transition).to s)
-      marked_so s b e t = e ∙ ap (λ x. one_if (target_among ts j s || x)) (sym t ∙ ap (λ x. eqb x s) is)
+      marked_so : (s : ℕ) (b : Bool) → get_or (set targets d true) s false ≡ target_among ts j s || b → eqb d s ≡ b
+          → get_or (set targets d true) s false ≡ target_among ts j s || eqb (get_or ts j no_transition).to s
+      marked_so s b e t = e ∙ ap (λ x. target_among ts j s || x) (sym t ∙ ap (λ x. eqb x s) is)
 
-      apart : (s : ℕ) → s ≤ 1000 → (d ≡ s → ⊥) → get_or (set targets d 1) s 0 ≡ one_if (target_among ts j s || eqb (get_or ts j no_transition).to s)
+      apart : (s : ℕ) → s ≤ 1000 → (d ≡ s → ⊥) → get_or (set targets d true) s false ≡ target_among ts j s || eqb (get_or ts j no_transition).to s
       apart s low n =
           marked_so s false
-          (get_or-set_other targets d s 1 0 (λ e. n (sym e)) ∙ h.marks s low ∙ ap one_if (sym (or_false (target_among ts j s))))
+          (get_or-set_other targets d s true false (λ e. n (sym e)) ∙ h.marks s low ∙ sym (or_false (target_among ts j s)))
           (ne_eqb d s n)
 
-      go : (s : ℕ) → s ≤ 1000 → Dec (s ≤ d) → Dec (d ≤ s) → get_or (set targets d 1) s 0 ≡ one_if (target_among ts j s || eqb (get_or ts j no_transition).to s)
+      go : (s : ℕ) → s ≤ 1000 → Dec (s ≤ d) → Dec (d ≤ s) → get_or (set targets d true) s false ≡ target_among ts j s || eqb (get_or ts j no_transition).to s
       go s low (yes a) (yes b) =
           let same : d ≡ s = omega arith in
           marked_so s true
-          (ap (λ x. get_or (set targets d 1) x 0) (sym same) ∙ get_or-set_same targets d 1 0 (omega (arith, h.size)) ∙ ap one_if (sym (or_true (target_among ts j s))))
+          (ap (λ x. get_or (set targets d true) x false) (sym same) ∙ get_or-set_same targets d true false (omega (arith, h.size)) ∙ sym (or_true (target_among ts j s)))
           (eq-eqb d s same)
       go s low (yes a) (no b) = apart s low (λ e. b (omega (arith, e)))
       go s low (no a) b = apart s low (λ e. a (omega (arith, e)))
@@ -100,83 +101,48 @@ module _ {ws index : List ℕ} (indexes : Indexes ws index) {j w d : ℕ} (insid
 
 -- ---- the list
 
--- one state more, which has a row or none
-module _ (index targets : List ℕ) where
-  pub listed_pass : (n : ℕ) → marked index targets (suc n) ≡ true → listed index targets (suc n) ≡ listed index targets n ++ (suc n ∷ [])
-  unfolding listed
-  listed_pass n e = ap (λ b. listed index targets n ++ elim b [ true ↦ suc n ∷ [] | false ↦ [] ]) e
+-- The table after the states from 1 to n were looked at: those with rows were written.
+pub record Naming (index : List ℕ) (targets : List Bool) (n : ℕ) (table : RowTable) : Type 0 where
+  pub few : table.count ≤ n
+  pub count_is : table.count ≡ length (named_states table)
+  pub states_are : named_states table ≡ listed index targets n
+  pub no_totals : NoTotals table
 
-  pub listed_fail : (n : ℕ) → marked index targets (suc n) ≡ false → listed index targets (suc n) ≡ listed index targets n
-  unfolding listed
-  listed_fail n e = ap (λ b. listed index targets n ++ elim b [ true ↦ suc n ∷ [] | false ↦ [] ]) e ∙ append_none (listed index targets n)
-    where
-      append_none : (xs : List ℕ) → xs ++ [] ≡ xs
-      append_none [] = refl
-      append_none (x ∷ xs) = ap (λ l. x ∷ l) (append_none xs)
-
--- before the first state
-pub listed_begin : {index targets table : List ℕ} → Listed index targets 0 table table 0
+pub naming_none : {index : List ℕ} {targets : List Bool} {table : RowTable} → Empty table → Naming index targets 0 table
 unfolding listed
-listed_begin = record { count_is = refl; states_are = λ i h. absurd (omega (arith, h)); size = refl; behind = λ i h. refl }
+naming_none {table = table} h =
+    record { few = omega (arith, h.no_rows); count_is = h.no_rows ∙ sym (ap (λ (k : ℕ). length (take k table.states)) h.no_rows); states_are = ap (λ (k : ℕ). take k table.states) h.no_rows; no_totals = h.no_totals }
 
--- The table after the states from 1 to n were looked at: k of them were written.
-module _ {index targets before after : List ℕ} {n k : ℕ} (few : n < 1000) (size : length before ≡ 5014) (h : Listed index targets n before after k) where
-  listed_few : (i : ℕ) → length (listed index targets i) ≤ i
-  unfolding listed
-  listed_few zero = omega arith
-  listed_few (suc i) = omega (arith, length-append (listed index targets i) (last (marked index targets (suc i))), listed_few i, one (marked index targets (suc i)))
-    where
-      last : Bool → List ℕ
-      last b = elim b [ true ↦ suc i ∷ [] | false ↦ [] ]
-
-      one : (b : Bool) → length (last b) ≤ 1
-      one true = omega arith
-      one false = omega arith
-
-  pub listed_room : k < 1000
-  listed_room = omega (arith, h.count_is, listed_few n)
-
+module _ {index : List ℕ} {targets : List Bool} {n : ℕ} {before : RowTable} (h : Naming index targets n before) where
   -- state n + 1 is written
-  pub listed_more : {s : ℕ} → s ≡ suc n → marked index targets s ≡ true → Listed index targets s before (set after (k + 1) s) (k + 1)
-  listed_more {s} is e =
-      let new : listed index targets s ≡ listed index targets n ++ (s ∷ []) = rw is (listed_pass index targets n (ap (marked index targets) (sym is) ∙ e)) in
-      record {
-        count_is = omega (arith, ap length new, length-append (listed index targets n) (s ∷ []), h.count_is);
-        states_are = λ i low. go i new low (dec_le (k + 1) (i + 1));
-        size = length-set after (k + 1) s ∙ h.size;
-        behind = λ i far. get_or-set_other after (k + 1) i s 0 (λ e. absurd (omega (arith, e, listed_room))) ∙ h.behind i far;
-      }
-    where
-      go : (i : ℕ) → listed index targets s ≡ listed index targets n ++ (s ∷ []) → i < k + 1 → Dec (k + 1 ≤ i + 1)
-          → row_state (set after (k + 1) s) i ≡ get_or (listed index targets s) i 0
-      go i new low (yes a) =
-          let last : i ≡ k = omega arith in
-          ap (λ x. row_state (set after (k + 1) s) x) last
-          ∙ get_or-set_same after (k + 1) s 0 (omega (arith, size, h.size, listed_room))
-          ∙ sym (get_or-append_seam (listed index targets n) s [] 0)
-          ∙ ap (λ x. get_or (listed index targets n ++ (s ∷ [])) x 0) (sym (last ∙ h.count_is))
-          ∙ ap (λ l. get_or l i 0) (sym new)
-      go i new low (no a) =
-          let early : i < k = omega (arith, lt_of_not-le a) in
-          get_or-set_other after (k + 1) (i + 1) s 0 (λ e. absurd (omega (arith, e)))
-          ∙ h.states_are i early
-          ∙ sym (get_or-append (listed index targets n) (s ∷ []) 0 i (omega (arith, h.count_is)))
-          ∙ ap (λ l. get_or l i 0) (sym new)
+  pub naming_more : {after : RowTable} {s : ℕ} → s ≡ suc n → marked index targets s ≡ true → RowAdded s before after → Naming index targets s after
+  unfolding listed
+  naming_more {after} {s} is e added = record {
+    few = omega (arith, is, added.count_is, h.few);
+    count_is = omega (arith, added.count_is, h.count_is, ap length added.names_are, length-append (named_states before) (s ∷ []));
+    states_are =
+        added.names_are ∙ ap₂ (λ l (x : ℕ). l ++ (x ∷ [])) h.states_are is
+        ∙ sym (ap (listed index targets) is
+        ∙ ap (λ b. listed index targets n ++ elim b [ true ↦ suc n ∷ [] | false ↦ [] ]) (ap (marked index targets) (sym is) ∙ e));
+    no_totals = added.totals_kept h.no_totals;
+  }
 
   -- or it has no row
-  pub listed_same : {s : ℕ} → s ≡ suc n → marked index targets s ≡ false → Listed index targets s before after k
-  listed_same {s} is e =
-      let new : listed index targets s ≡ listed index targets n = rw is (listed_fail index targets n (ap (marked index targets) (sym is) ∙ e)) in
-      record {
-        count_is = h.count_is ∙ ap length (sym new);
-        states_are = λ i low. h.states_are i low ∙ ap (λ l. get_or l i 0) (sym new);
-        size = h.size;
-        behind = h.behind;
-      }
+  pub naming_same : {s : ℕ} → s ≡ suc n → marked index targets s ≡ false → Naming index targets s before
+  unfolding listed
+  naming_same {s} is e = record {
+    few = omega (arith, is, h.few);
+    count_is = h.count_is;
+    states_are =
+        h.states_are ∙ sym (ap (listed index targets) is
+        ∙ ap (λ b. listed index targets n ++ elim b [ true ↦ suc n ∷ [] | false ↦ [] ]) (ap (marked index targets) (sym is) ∙ e)
+        ∙ append-nil (listed index targets n));
+    no_totals = h.no_totals;
+  }
 
 -- ---- they are the definition's
 
-module _ {ws index : List ℕ} (indexes : Indexes ws index) {targets : List ℕ} (all : Targets (net_of ws).table (length (net_of ws).table) targets) where
+module _ {ws index : List ℕ} (indexes : Indexes ws index) {targets : List Bool} (all : Targets (net_of ws).table (length (net_of ws).table) targets) where
   abbrev net : Net
   net = net_of ws
 
@@ -186,9 +152,9 @@ module _ {ws index : List ℕ} (indexes : Indexes ws index) {targets : List ℕ}
       ap₂ (λ a b. not a && b) (ap (λ k. eqb k 1) (indexes.indexed.named_are s low) ∙ flag_test (is_named net s))
       (ap₂ (λ a b. a && b)
       (ap (λ k. eqb k 0) (indexes.indexed.counts_are s low) ∙ sym (is_empty_length (exits net s)))
-      (ap (λ k. eqb k 1) (all.marks s low) ∙ flag_test (target_among net.table (length net.table) s) ∙ among_all s net.table))
+      (all.marks s low ∙ among_all s net.table))
 
-  pub listed_is : (n : ℕ) → n ≤ 1000 → listed index targets n ≡ only (has_row net) (numbers_from n 1)
+  listed_is : (n : ℕ) → n ≤ 1000 → listed index targets n ≡ only (has_row net) (numbers_from n 1)
   unfolding listed only numbers_from
   listed_is zero h = refl
   listed_is (suc n) h =
@@ -196,24 +162,13 @@ module _ {ws index : List ℕ} (indexes : Indexes ws index) {targets : List ℕ}
       ∙ sym (only_append (has_row net) (numbers_from n 1) (suc n ∷ []))
       ∙ ap (λ l. only (has_row net) l) (ap (λ (x : ℕ). numbers_from n 1 ++ (x ∷ [])) (omega arith) ∙ sym (numbers_last n 1))
 
-  -- a table of zeros, with the states written and then their number
-  module _ {before after : List ℕ} {n : ℕ} (cleared : before ≡ replicate 5014 0)
-      (h : Listed index targets (described ws).states before after n) where
-    listed_all : listed index targets (described ws).states ≡ row_states (described ws)
-    unfolding row_states
-    listed_all = listed_is (described ws).states indexes.valid.states_high
-
-    zero_behind : (i : ℕ) → 1002 ≤ i → get_or (set after 0 n) i 0 ≡ 0
-    zero_behind i far =
-        get_or-set_other after 0 i n 0 (λ e. absurd (omega (arith, e))) ∙ h.behind i far ∙ ap (λ l. get_or l i 0) cleared ∙ all_zero 5014 i
-
-    pub named : Named (described ws) (set after 0 n) n
-    named = record {
-      count_is = h.count_is ∙ ap length listed_all;
-      stands = get_or-set_same after 0 n 0 (omega (arith, long));
-      states_are = λ i low. get_or-set_other after 0 (i + 1) n 0 (λ e. absurd (omega (arith, e))) ∙ h.states_are i low ∙ ap (λ l. get_or l i 0) listed_all;
-      no_totals = record { size = length-set after 0 n ∙ long; zeros = zero_behind };
-    }
-      where
-        long : length after ≡ 5014
-        long = h.size ∙ ap length cleared
+  pub named : {table : RowTable} → Naming index targets (described ws).states table → Named (described ws) table
+  unfolding row_states
+  named {table} h = record {
+    count_is = h.count_is ∙ ap length all_there;
+    states_are = all_there;
+    no_totals = h.no_totals;
+  }
+    where
+      all_there : named_states table ≡ row_states (described ws)
+      all_there = h.states_are ∙ listed_is (described ws).states indexes.valid.states_high

@@ -1,50 +1,43 @@
 -- Laws of rows that are stored one after the other. Assumes nothing.
-use Prim.Native.Nat.{ℕ, zero, suc, ◌≤◌, ◌<◌}
-use mathlib.Core.Path.{◌≡◌, refl, sym, ◌∙◌, ap}
-use mathlib.Core.List.{List, ◌∷◌, ◌++◌}
+use Prim.Native.Nat.{ℕ, suc, ◌+◌, ◌≤◌, ◌<◌}
+use mathlib.Core.Path.{◌≡◌, sym, ◌∙◌, ap}
+use mathlib.Core.List.{List, ◌∷◌, ◌++◌, map}
+use Rattle.std.proofs.lemmas.List.{length-map, get_or-map}
+use native.Mathlib.Numerals.{add-one}
 use native.Mathlib.Omega.{arith}
-use lib.ListN.{length, get_or, set, take, drop, length-set}
-use lib.Seq.{get_or-set_other, length-take-le, take-length, take-suc, drop-cons, append_snoc, set_at}
+use lib.ListN.{length, get_or, set, take, drop}
+use lib.Seq.{length-take-le, take-length, take-suc, drop-cons, append_snoc, set_at}
 use Rattle.tree.specs.declared.Row.{Row}
 use Rattle.tree.specs.Rows.{zero_row, laid_over}
-use Rattle.rows.specs.Internal.Filling.{stored}
 
-module _ (f : ℕ → Row) (rows : List Row) where
-  pub stored_none : stored f 0 rows ≡ rows
-  unfolding stored
-  stored_none = refl
+-- the first i of `filled` before what `given` has behind them
+abbrev pub laid : (filled given : List Row) → ℕ → List Row
+laid filled given i = take i filled ++ drop i given
 
-  pub stored_more : (n : ℕ) → stored f (suc n) rows ≡ set (stored f n rows) n (f n)
-  unfolding stored
-  stored_more n = refl
+module _ (filled given : List Row) where
+  -- one row more
+  pub laid_more : {i : ℕ} {r : Row} → i < length filled → length filled ≤ length given → r ≡ get_or filled i (zero_row 0)
+      → set (laid filled given i) i r ≡ laid filled given (i + 1)
+  laid_more {i} {r} low room e =
+      ap (λ (l : List Row). set (take i filled ++ l) i r) (drop-cons given i (zero_row 0) (omega (arith, low, room)))
+      ∙ set_at (take i filled) (get_or given i (zero_row 0)) (drop (suc i) given) r i (length-take-le i filled (omega (arith, low)))
+      ∙ ap (λ (x : Row). take i filled ++ x ∷ drop (suc i) given) e
+      ∙ sym (append_snoc (take i filled) (get_or filled i (zero_row 0)) (drop (suc i) given))
+      ∙ ap (λ (l : List Row). l ++ drop (suc i) given) (sym (take-suc filled i (zero_row 0) low))
+      ∙ ap (λ (k : ℕ). laid filled given k) (sym (add-one i))
 
-  pub stored_length : (n : ℕ) → length (stored f n rows) ≡ length rows
-  unfolding stored
-  stored_length zero = refl
-  stored_length (suc n) = length-set (stored f n rows) n (f n) ∙ stored_length n
+  -- all of them
+  pub laid_all : {i : ℕ} → i ≡ length filled → laid filled given i ≡ laid_over filled given
+  unfolding laid_over
+  laid_all {i} e = rw e (ap (λ (l : List Row). l ++ drop (length filled) given) (take-length filled))
 
-  -- rows beyond are unchanged
-  pub stored_beyond : (n i : ℕ) (d : Row) → n ≤ i → get_or (stored f n rows) i d ≡ get_or rows i d
-  unfolding stored
-  stored_beyond zero i d h = refl
-  stored_beyond (suc n) i d h =
-      get_or-set_other (stored f n rows) n i (f n) d (λ e. absurd (omega (arith, e, h))) ∙ stored_beyond n i d (omega (arith, h))
+-- where they are made of states
+module _ (f : ℕ → Row) (states : List ℕ) (given : List Row) where
+  pub made_more : {i : ℕ} {r : Row} → i < length states → length states ≤ length given → r ≡ f (get_or states i 0)
+      → set (laid (map f states) given i) i r ≡ laid (map f states) given (i + 1)
+  made_more {i} {r} low room e =
+      laid_more (map f states) given (omega (arith, low, length-map states f)) (omega (arith, room, length-map states f))
+      (e ∙ sym (get_or-map f states i 0 (zero_row 0) low))
 
--- the first n of `filled`, where f has them, before what `given` has behind them
-stored_front : (f : ℕ → Row) (filled given : List Row) → length filled ≤ length given → ((i : ℕ) → i < length filled → f i ≡ get_or filled i (zero_row 0))
-    → (n : ℕ) → n ≤ length filled → stored f n given ≡ take n filled ++ drop n given
-unfolding stored
-stored_front f filled given room same zero h = refl
-stored_front f filled given room same (suc n) h =
-    ap (λ (l : List Row). set l n (f n)) (stored_front f filled given room same n (omega (arith, h)) ∙ ap (λ (l : List Row). take n filled ++ l) (drop-cons given n (zero_row 0) (omega (arith, h, room))))
-    ∙ set_at (take n filled) (get_or given n (zero_row 0)) (drop (suc n) given) (f n) n (length-take-le n filled (omega (arith, h)))
-    ∙ ap (λ (r : Row). take n filled ++ r ∷ drop (suc n) given) (same n h)
-    ∙ sym (append_snoc (take n filled) (get_or filled n (zero_row 0)) (drop (suc n) given))
-    ∙ ap (λ (l : List Row). l ++ drop (suc n) given) (sym (take-suc filled n (zero_row 0) h))
-
--- so all of `filled` stored one after the other is laid over what was given
-pub stored_laid_over : (f : ℕ → Row) (filled given : List Row) → length filled ≤ length given → ((i : ℕ) → i < length filled → f i ≡ get_or filled i (zero_row 0))
-    → stored f (length filled) given ≡ laid_over filled given
-unfolding laid_over
-stored_laid_over f filled given room same =
-    stored_front f filled given room same (length filled) (omega arith) ∙ ap (λ (l : List Row). l ++ drop (length filled) given) (take-length filled)
+  pub made_all : {i : ℕ} → i ≡ length states → laid (map f states) given i ≡ laid_over (map f states) given
+  made_all e = laid_all (map f states) given (e ∙ sym (length-map states f))

@@ -3,10 +3,10 @@
 #![tactic(auto)]
 
 ghost use Rattle.std.specs.Prelude.{◌≡◌, length};
-ghost use Rattle.rows.specs.Internal.Table.{row_count};
-ghost use Rattle.rows.specs.Internal.Filling.{Fits, row_in, stored};
+ghost use Rattle.tree.specs.Rows.{laid_over};
+ghost use Rattle.rows.specs.Internal.Filling.{Fits, rows_in};
 
-use crate::table::{RowTable, count, row_at};
+use crate::table::RowTable;
 use tree::Row;
 
 pub mod names;
@@ -15,12 +15,9 @@ pub mod table;
 // Fills the caller's first rows with the table's; those beyond them are unchanged.
 pub fn fill_rows(rows: &mut [Row], table: &RowTable)
     requires { Fits table.now (length rows.old) }
-    ensures { rows.new ≡ stored (row_in table.now) (row_count table.now) rows.old }
+    ensures { rows.new ≡ laid_over (rows_in table.now) rows.old }
 {
-    let n = count(table);
-    let mut i = 0;
-    while i < n {
-        rows[i] = row_at(table, i);
-        i += 1;
+    for (i, state) in table.states[..table.count].iter().enumerate() {
+        rows[i] = table.row(*state);
     }
 }

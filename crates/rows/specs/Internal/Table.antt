@@ -1,80 +1,59 @@
--- The table of totals as an array holds it: the rows by number and state, the report's totals and those of each state. Assumes nothing: these are
--- definitions.
-use Rattle.std.specs.Prelude.{ℕ, ◌+◌, ◌*◌, ◌%◌, ◌≤◌, ◌<◌, ◌≡◌, Bool, true, false, ◌&&◌, List, length, get_or, eqb, pos, ◌-ℤ◌}
+-- The table of totals: the states that have rows, the report's totals and marks, and the totals of each state. Assumes nothing: these are definitions.
+use Rattle.std.specs.Prelude.{ℕ, ◌+◌, ◌≡◌, ◌&&◌, List, [], ◌∷◌, ◌++◌, take, get_or}
 use Rattle.figure.specs.declared.Figure.{Figure}
-use Rattle.figure.specs.Rounding.{figure, none}
+use Rattle.figure.specs.Rounding.{none}
 use Rattle.figure.specs.Internal.Gathered.{Gathered}
 use Rattle.figure.specs.Operations.{total_up, total_down}
 use Rattle.tree.specs.Marks.{Marks}
-use Rattle.tree.specs.Internal.Tally.{RowTotals, row_with_death}
+use Rattle.tree.specs.Internal.Tally.{RowTotals, row_with_death, zero_row_totals, all_kept}
+use Rattle.rows.specs.declared.table.Sums.{Sums}
+use Rattle.rows.specs.declared.table.RowTable.{RowTable}
 
--- ---- the sections
+-- ---- the parts
 
--- how many rows there are
-abbrev pub row_count : List ℕ → ℕ
-row_count table = get_or table 0 0
-
--- the state of row i
-abbrev pub row_state : List ℕ → ℕ → ℕ
-row_state table i = get_or table (i + 1) 0
-
--- a total by its digits and its power, raised by 2^20; zeros are the total 0
-unfoldable pub total_of : (digits raised : ℕ) → Figure
-total_of digits raised = elim (eqb digits 0) [ true ↦ none | false ↦ figure digits (pos (raised % 2097152) -ℤ pos 1048576) ]
-
--- the total that begins at a place
-abbrev pub total_in : List ℕ → ℕ → Figure
-total_in table at = total_of (get_or table at 0) (get_or table (at + 1) 0)
+-- the states that have rows, in their order
+abbrev pub named_states : RowTable → List ℕ
+named_states table = take table.count table.states
 
 -- the report's totals, of the lowers and the uppers of death paths and of the uppers of cut paths
 
-abbrev pub lower_total : List ℕ → Figure
-lower_total table = total_in table 1002
+abbrev pub lower_total : RowTable → Figure
+lower_total table = table.deaths.lower
 
-abbrev pub death_total : List ℕ → Figure
-death_total table = total_in table 1004
+abbrev pub death_total : RowTable → Figure
+death_total table = table.deaths.upper
 
-abbrev pub cut_total : List ℕ → Figure
-cut_total table = total_in table 1006
+abbrev pub cut_total : RowTable → Figure
+cut_total table = table.cuts
 
--- whether nothing was lost so far: a mark is 1 once something was
-abbrev pub kept_in : List ℕ → ℕ → Bool
-kept_in table at = eqb (get_or table at 0) 0
-
--- the report's marks, of its lower and of its upper
-unfoldable pub marks_in : List ℕ → Marks
-marks_in table = record { lower = kept_in table 1008; upper = kept_in table 1009 }
+-- whether nothing was lost so far that the report's lower and its upper rest on
+abbrev pub marks_in : RowTable → Marks
+marks_in table = record { lower = table.lower_kept; upper = table.upper_kept }
 
 -- the totals of the state s
-unfoldable pub totals_in : List ℕ → ℕ → RowTotals
-totals_in table s = record { lower = total_in table (1010 + s * 4); upper = total_in table (1010 + s * 4 + 2) }
+abbrev pub no_sums : Sums
+no_sums = record { lower = none; upper = none }
+
+abbrev pub sums_of : RowTable → ℕ → Sums
+sums_of table s = get_or table.by_state s no_sums
+
+unfoldable pub totals_in : RowTable → ℕ → RowTotals
+totals_in table s = record { lower = (sums_of table s).lower; upper = (sums_of table s).upper }
 
 -- ---- what is written
 
--- the total f was written to a place, and nothing else
-pub record Put (at : ℕ) (f : Figure) (before after : List ℕ) : Type 0 where
-  pub total_is : total_in after at ≡ f
-  pub size : length after ≡ length before
-  pub elsewhere : (i : ℕ) → (i ≡ at → ⊥) → (i ≡ at + 1 → ⊥) → get_or after i 0 ≡ get_or before i 0
+-- totals with one death path more, of the lower l and the upper u
+pub record TotalsWith (l u : Figure) (before after : Sums) : Type 0 where
+  pub lower_is : after.lower ≡ total_down before.lower l
+  pub upper_is : after.upper ≡ total_up before.upper u
 
--- the place of a mark
-pub record MarkPlace (at : ℕ) : Type 0 where
-  pub first : 1008 ≤ at
-  pub last : at ≤ 1009
-
--- in the mark at a place it was noted whether something more lost nothing, and nothing else was written
-pub record MarkNoted (at : ℕ) (k : Bool) (before after : List ℕ) : Type 0 where
-  pub mark_is : kept_in after at ≡ (kept_in before at && k)
-  pub size : length after ≡ length before
-  pub elsewhere : (i : ℕ) → (i ≡ at → ⊥) → get_or after i 0 ≡ get_or before i 0
-
--- the number of rows and their states are as they were
-pub record NamesKept (before after : List ℕ) : Type 0 where
-  pub size : length after ≡ length before
-  pub same : (i : ℕ) → i < 1002 → get_or after i 0 ≡ get_or before i 0
+-- the states that have rows are as they were
+pub record NamesKept (before after : RowTable) : Type 0 where
+  pub count_same : after.count ≡ before.count
+  pub states_same : after.states ≡ before.states
 
 -- one more death path, of the lower l and the upper u, which ends in the state s
-pub record DeathNoted (s : ℕ) (l u : Figure) (before after : List ℕ) : Type 0 where
+pub record DeathNoted (s : ℕ) (l u : Figure) (before after : RowTable) : Type 0 where
   pub lower_is : lower_total after ≡ total_down (lower_total before) l
   pub death_is : death_total after ≡ total_up (death_total before) u
   pub cut_same : cut_total after ≡ cut_total before
@@ -83,7 +62,7 @@ pub record DeathNoted (s : ℕ) (l u : Figure) (before after : List ℕ) : Type 
   pub names_kept : NamesKept before after
 
 -- one more cut path, of the upper u
-pub record CutNoted (u : Figure) (before after : List ℕ) : Type 0 where
+pub record CutNoted (u : Figure) (before after : RowTable) : Type 0 where
   pub lower_same : lower_total after ≡ lower_total before
   pub death_same : death_total after ≡ death_total before
   pub cut_is : cut_total after ≡ total_up (cut_total before) u
@@ -91,10 +70,33 @@ pub record CutNoted (u : Figure) (before after : List ℕ) : Type 0 where
   pub marks_same : marks_in after ≡ marks_in before
   pub names_kept : NamesKept before after
 
+-- it was noted whether something more, that the report's lower or its upper rests on, lost nothing
+pub record MarksNoted (k : Marks) (before after : RowTable) : Type 0 where
+  pub marks_are : marks_in after ≡ record { lower = (marks_in before).lower && k.lower; upper = (marks_in before).upper && k.upper }
+  pub lower_same : lower_total after ≡ lower_total before
+  pub death_same : death_total after ≡ death_total before
+  pub cut_same : cut_total after ≡ cut_total before
+  pub rows_same : totals_in after ≡ totals_in before
+  pub names_kept : NamesKept before after
+
 -- no total and no mark was written yet
-pub record NoTotals (table : List ℕ) : Type 0 where
-  pub size : length table ≡ 5014
-  pub zeros : (i : ℕ) → 1002 ≤ i → get_or table i 0 ≡ 0
+pub record NoTotals (table : RowTable) : Type 0 where
+  pub lower_is : lower_total table ≡ none
+  pub death_is : death_total table ≡ none
+  pub cut_is : cut_total table ≡ none
+  pub rows_are : totals_in table ≡ zero_row_totals
+  pub marks_are : marks_in table ≡ all_kept
+
+-- a table without rows
+pub record Empty (table : RowTable) : Type 0 where
+  pub no_rows : table.count ≡ 0
+  pub no_totals : NoTotals table
+
+-- one more row, of the state s, behind the others
+pub record RowAdded (s : ℕ) (before after : RowTable) : Type 0 where
+  pub count_is : after.count ≡ before.count + 1
+  pub names_are : named_states after ≡ named_states before ++ (s ∷ [])
+  pub totals_kept : NoTotals before → NoTotals after
 
 -- ---- ranges
 
@@ -102,13 +104,16 @@ pub record NoTotals (table : List ℕ) : Type 0 where
 abbrev pub TotalOf : ℕ → Figure → Type 0
 TotalOf n f = Gathered 18 40000 40000 n f
 
+pub record SumsGathered (n : ℕ) (t : Sums) : Type 0 where
+  pub lower : TotalOf n t.lower
+  pub upper : TotalOf n t.upper
+
 pub record RowGathered (n : ℕ) (t : RowTotals) : Type 0 where
   pub lower : TotalOf n t.lower
   pub upper : TotalOf n t.upper
 
 -- all totals of a table
-pub record TableGathered (n : ℕ) (table : List ℕ) : Type 0 where
-  pub size : length table ≡ 5014
+pub record TableGathered (n : ℕ) (table : RowTable) : Type 0 where
   pub lower : TotalOf n (lower_total table)
   pub death : TotalOf n (death_total table)
   pub cut : TotalOf n (cut_total table)
