@@ -4,6 +4,8 @@ use mathlib.Core.Path.{◌≡◌, sym, ap, ap₂, ◌∙◌}
 use mathlib.Core.List.{List}
 use native.Mathlib.Nat.{le_refl}
 use lib.ListN.{length, take}
+use Rattle.std.specs.Prelude.{Result}
+use Rattle.word.specs.declared.Refusal.{Refusal}
 use Rattle.tree.specs.declared.Row.{Row}
 use Rattle.tree.specs.Report.{answer}
 use Rattle.tree.specs.Rows.{answer_with_rows}
@@ -11,7 +13,7 @@ use Rattle.tree.specs.Marks.{marks_by, marks_with}
 use Rattle.tree.proofs.RowAnswers.{thousand_rows_enough}
 use Rattle.accuracy.proofs.Theorem.{accuracy_theorem}
 use Rattle.accuracy.proofs.Exactness.{mark_theorem}
-use Rattle.bounds.specs.declared.Answer.{Answer}
+use Rattle.bounds.specs.declared.Report.{Report}
 use Rattle.bounds.specs.Rows.{PromisedRows}
 use Rattle.text.specs.Bytes.{words_of, most_bytes}
 use Rattle.text.specs.Text.{answer_text, text_of}
@@ -20,7 +22,7 @@ use Rattle.text.specs.Program.{report_budget, report_rows, LendsRows}
 use Rattle.text.specs.Faithful.{PrintsNoRow}
 use Rattle.text.proofs.Words.{read_enough, answer_enough}
 
-pub lends_rows : (before after : List ℕ) (budget : ℕ) (given left : List Row) (r : Answer) → length given ≡ 1000
+pub lends_rows : (before after : List ℕ) (budget : ℕ) (given left : List Row) (r : Result Report Refusal) → length given ≡ 1000
     → PromisedRows before after budget given left r → LendsRows before after budget r
 lends_rows before after budget given left r many h = record {
   answer_is = h.answer_is ∙ ap (answer_with_rows before budget) many;

@@ -12,7 +12,7 @@ ghost use Rattle.text.specs.Rules.{Rules};
 
 use crate::Text;
 use crate::bytes::{WORDS_SIZE, words_of};
-use bounds::{Answer, Report, unreliability};
+use bounds::{Report, unreliability};
 use word::Refusal;
 
 fn report_text(r: Report) -> Text
@@ -30,12 +30,12 @@ fn refusal_text(f: Refusal) -> Text
     Text::empty().with_line(b"refused ", f)
 }
 
-pub fn answer_text(a: Answer) -> Text
+pub fn answer_text(a: Result<Report, Refusal>) -> Text
     ensures { Holds (answer_text (answer_of a) (marks_of_answer a)) result }
 {
     match a {
-        Answer::Report(r) => report_text(r),
-        Answer::Refused(f) => refusal_text(f),
+        Ok(r) => report_text(r),
+        Err(f) => refusal_text(f),
     }
 }
 

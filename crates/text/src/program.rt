@@ -10,9 +10,10 @@ ghost use Rattle.text.specs.Faithful.{FaithfulText};
 use crate::Text;
 use crate::answers::answer_text;
 use crate::bytes::{BYTES_SIZE, WORDS_SIZE, words_of};
-use bounds::{Answer, unreliability_by_state};
+use bounds::{Report, unreliability_by_state};
 use figure::Figure;
 use tree::Row;
+use word::Refusal;
 
 // A buffer for standard input; what it holds is free. A read that fills it can stop: `AnswerEnough` of `FaithfulText`.
 pub fn input() -> [u8; BYTES_SIZE]
@@ -32,7 +33,7 @@ fn no_rows() -> [Row; 1000] {
 }
 
 // The answer to these words for a caller who lends 1,000 rows and looks at none of them afterwards.
-fn lending_rows(words: &[u32], budget: u64) -> Answer
+fn lending_rows(words: &[u32], budget: u64) -> Result<Report, Refusal>
     ensures { LendsRows words.now words.now budget result }
 {
     let mut rows = no_rows();
