@@ -6,6 +6,7 @@ use lib.IntN.{ℤ}
 use mir.Syntax.{w32}
 use mir.Val.{SFits, to_z, of_z}
 use mir.Facts.{to_z-of_z}
+use Rattle.std.specs.Int.{from_bool}
 use Rattle.figure.specs.declared.Figure.{Figure}
 use Rattle.figure.specs.Rounding.{figure, IsFigure}
 use Rattle.figure.specs.Operations.{at_or_below}
@@ -40,10 +41,15 @@ module _ (a b : Figure) where
   unfolding compared
   no_second h k = record { answer_is = rw (h, k, compared); first_tested = tested a; second_tested = tested b }
 
-  pub below : figure_test a ≡ true → figure_test b ≡ true → at_or_below a b ≡ true → Compared a b 1
+  below : figure_test a ≡ true → figure_test b ≡ true → at_or_below a b ≡ true → Compared a b 1
   unfolding compared
   below h k t = record { answer_is = rw (h, k, t, compared); first_tested = tested a; second_tested = tested b }
 
-  pub above : figure_test a ≡ true → figure_test b ≡ true → at_or_below a b ≡ false → Compared a b 0
+  above : figure_test a ≡ true → figure_test b ≡ true → at_or_below a b ≡ false → Compared a b 0
   unfolding compared
   above h k t = record { answer_is = rw (h, k, t, compared); first_tested = tested a; second_tested = tested b }
+
+  -- the comparison as a number
+  pub both : (t : Bool) {n : ℕ} → figure_test a ≡ true → figure_test b ≡ true → at_or_below a b ≡ t → n ≡ from_bool t → Compared a b n
+  both true h k o e = rw e (below h k o)
+  both false h k o e = rw e (above h k o)

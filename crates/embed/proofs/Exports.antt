@@ -1,26 +1,20 @@
 -- From what the entry points promise to what the exported functions do. Assumes nothing.
 use Prim.Native.Nat.{ℕ}
-use mathlib.Core.Path.{◌≡◌, refl, ap, ap₂, subst, ◌∙◌}
-use mathlib.Core.Bool.{Bool, true, false}
-use Rattle.std.specs.Int.{from_bool}
-use Rattle.word.specs.Model.{one_if}
+use mathlib.Core.Path.{ap, ap₂, subst, ◌∙◌}
+use Rattle.std.specs.Prelude.{Result}
+use Rattle.word.specs.declared.Refusal.{Refusal}
 use mathlib.Core.List.{List}
 use lib.IntN.{ℤ}
 use Rattle.tree.specs.declared.Row.{Row}
 use Rattle.accuracy.specs.Rule.{AccuracyRule}
 use Rattle.accuracy.specs.RowRule.{RowRule}
-use Rattle.bounds.specs.declared.Answer.{Answer}
+use Rattle.bounds.specs.declared.Report.{Report}
 use Rattle.bounds.specs.Answers.{Promised}
 use Rattle.bounds.specs.Rows.{PromisedRows}
 use Rattle.embed.specs.Exports.{numbers_of, powers_of, AnswerPut, Assessed, AssessedRows}
 
--- a mark as a number
-pub from_bool_is : (b : Bool) → from_bool b ≡ one_if b
-from_bool_is true = refl
-from_bool_is false = refl
-
 -- the numbers of the answer that the code has are those of the definition's
-pub assessed : {before after : List ℕ} {budget number : ℕ} {numbers : List ℕ} {powers : List ℤ} (a : Answer) → Promised before after budget a
+pub assessed : {before after : List ℕ} {budget number : ℕ} {numbers : List ℕ} {powers : List ℤ} (a : Result Report Refusal) → Promised before after budget a
     → AnswerPut a number numbers powers → Assessed before after budget number numbers powers
 assessed {before} {budget = n} a p h =
     record {
@@ -32,7 +26,7 @@ assessed {before} {budget = n} a p h =
       words_unchanged = p.words_unchanged;
     }
 
-pub assessed_rows : (before after : List ℕ) (budget : ℕ) (given left : List Row) (a : Answer) (number : ℕ) (numbers : List ℕ) (powers : List ℤ)
+pub assessed_rows : (before after : List ℕ) (budget : ℕ) (given left : List Row) (a : Result Report Refusal) (number : ℕ) (numbers : List ℕ) (powers : List ℤ)
     → PromisedRows before after budget given left a → AnswerPut a number numbers powers
     → AssessedRows before after budget given left number numbers powers
 assessed_rows before after budget given left a number numbers powers p h =

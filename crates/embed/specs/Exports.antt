@@ -1,9 +1,10 @@
 -- What the exported functions promise: an answer as plain numbers, its text, how two figures compare, and the version. Assumes nothing: these are
 -- definitions.
-use Rattle.std.specs.Prelude.{ℕ, ◌+◌, ◌*◌, ◌≤◌, ◌≡◌, true, false, List, [], ◌∷◌, length, take, ℤ}
+use Rattle.std.specs.Prelude.{ℕ, ◌+◌, ◌*◌, ◌≤◌, ◌≡◌, true, false, List, [], ◌∷◌, length, take, ℤ, Result}
 use Rattle.figure.specs.declared.Figure.{Figure}
 use Rattle.figure.specs.Operations.{at_or_below}
 use Rattle.figure.specs.Tested.{figure_test, Tested}
+use Rattle.word.specs.declared.Refusal.{Refusal}
 use Rattle.word.specs.Model.{one_if}
 use Rattle.tree.specs.Report.{Values, values, answer}
 use Rattle.tree.specs.Marks.{Marks, marks_with}
@@ -12,7 +13,7 @@ use Rattle.tree.specs.Rows.{answer_with_rows, rows_after}
 use Rattle.accuracy.specs.Rule.{AccuracyRule}
 use Rattle.accuracy.specs.RowRule.{RowRule}
 use Rattle.accuracy.specs.Exactness.{MarkRule}
-use Rattle.bounds.specs.declared.Answer.{Answer}
+use Rattle.bounds.specs.declared.Report.{Report}
 use Rattle.bounds.specs.Answers.{answer_of, marks_of_answer}
 use Rattle.text.specs.Text.{text_of}
 use Rattle.text.specs.Rules.{Rules}
@@ -30,7 +31,7 @@ powers_of v =
     r.lower.power ∷ r.upper.power ∷ r.cut.power ∷ []
 
 -- an answer was put into the lent arrays, and its number, 0 for a report, handed back
-pub record AnswerPut (a : Answer) (number : ℕ) (numbers : List ℕ) (powers : List ℤ) : Type 0 where
+pub record AnswerPut (a : Result Report Refusal) (number : ℕ) (numbers : List ℕ) (powers : List ℤ) : Type 0 where
   pub number_is : number ≡ (values (answer_of a)).number
   pub numbers_are : numbers ≡ numbers_of (values (answer_of a)) (marks_of_answer a)
   pub powers_are : powers ≡ powers_of (values (answer_of a))

@@ -10,20 +10,15 @@ ghost use Rattle.embed.specs.Exports.{AnswerPut, Assessed, AssessedRows, Texted,
 ghost use Rattle.embed.specs.Subsystems.{OrAnswered};
 ghost use Rattle.figure.specs.Rounding.{figure};
 
-use bounds::{Answer, Report, unreliability, unreliability_by_state};
+use bounds::{Report, unreliability, unreliability_by_state};
 use figure::Figure;
 use orprob::{OrRefusal, probabilistic_or};
 use text::answers::words_text;
 use text::bytes::{WORDS_SIZE, words_of};
 use tree::Row;
+use word::Refusal;
 
 mod subsystems;
-
-fn put_powers(lower: i32, upper: i32, cut: i32, powers: &mut [i32; 3])
-    ensures { powers.new ≡ (lower ∷ upper ∷ cut ∷ []) }
-{
-    *powers = [lower, upper, cut];
-}
 
 // The numbers of a report.
 fn put_report(r: Report, values: &mut [u64; 9], powers: &mut [i32; 3])
@@ -44,22 +39,22 @@ fn put_report(r: Report, values: &mut [u64; 9], powers: &mut [i32; 3])
         u64::from(r.lower_exact),
         u64::from(r.upper_exact),
     ];
-    put_powers(lower.power, upper.power, cut.power, powers);
+    *powers = [lower.power, upper.power, cut.power];
 }
 
 // The number of an answer, 0 for a report, and its numbers.
-fn put_answer(a: Answer, values: &mut [u64; 9], powers: &mut [i32; 3]) -> u64
+fn put_answer(a: Result<Report, Refusal>, values: &mut [u64; 9], powers: &mut [i32; 3]) -> u64
     ensures { AnswerPut a result values.new powers.new }
 {
     match a {
-        Answer::Refused(f) => {
+        Ok(r) => {
+            put_report(r, values, powers);
+            0
+        }
+        Err(f) => {
             *values = [f.place() as u64, 0, 0, 0, 0, 0, 0, 0, 0];
             *powers = [0, 0, 0];
             f.number()
-        }
-        Answer::Report(r) => {
-            put_report(r, values, powers);
-            0
         }
     }
 }
@@ -135,13 +130,10 @@ pub extern "C" fn bounds_at_or_below(
         digits: limit_digits,
         power: limit_power,
     };
-    if !a.is_figure() {
+    if !a.is_figure() || !limit.is_figure() {
         return NO_FIGURE;
     }
-    if !limit.is_figure() {
-        return NO_FIGURE;
-    }
-    if a.at_or_below(limit) { 1 } else { 0 }
+    u64::from(a.at_or_below(limit))
 }
 
 // The probabilistic OR of `pairs` pairs of figures: 0, or the refusal's number, 17 or 18. `digits` and `powers` are those of lower 0, upper 0, lower 1,
