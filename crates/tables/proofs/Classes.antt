@@ -11,6 +11,7 @@ use lib.Dec.{eqb}
 use Rattle.figure.specs.declared.Figure.{Figure}
 use Rattle.word.specs.Model.{Manner, slow, fast, Model, is_fast}
 use Rattle.word.specs.Words.{kind, from_field}
+use Rattle.model.specs.declared.index.Index.{Index}
 use Rattle.model.specs.Index.{Stands, place_of, no_transition, transition}
 use Rattle.model.specs.Internal.Valid.{ValidTransition, Valid}
 use Rattle.word.proofs.Members.{each_lookup}
@@ -66,7 +67,7 @@ module _ {m : Model} (valid : Valid m) {j : ℕ} (inside : j < length m.net.tabl
   pub origin_small : (transition m.net j).from < 1001
   origin_small = omega (arith, step_valid.from_high, valid.states_high)
 
-module _ {ws index : List ℕ} (h : Indexes ws index) {j : ℕ} (inside : j < length (net_of ws).table) where
+module _ {ws : List ℕ} {index : Index} (h : Indexes ws index) {j : ℕ} (inside : j < length (net_of ws).table) where
   stands : Stands ws (place_of index j) (transition (net_of ws) j)
   stands = h.indexed.places_are j inside
 

@@ -4,6 +4,7 @@ pub mod Firsts
 pub mod Reached
 pub mod StateSums
 pub mod Losses
+pub mod MarkOrders
 pub mod StepLaws
 pub mod Sections
 pub mod Classes

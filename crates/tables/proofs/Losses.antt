@@ -1,25 +1,29 @@
 -- What class 2 takes off 1 and class 3 off h': every figure on the way is in range, and no divisor is 0. Assumes nothing.
 use Prim.Native.Nat.{ℕ, ◌*◌, ◌≤◌, ◌<◌}
 use mathlib.Core.Path.{◌≡◌}
-use native.Mathlib.Nat.{mul-le-mul, mul-pos}
+use native.Mathlib.Nat.{le_trans, mul-le-mul, mul-pos}
+use lib.Dec.{lit≤}
 use native.Mathlib.Omega.{arith}
 use lib.IntN.{pos}
 use mir.Syntax.{w64}
 use mir.Val.{Fits}
 use Rattle.figure.specs.declared.Figure.{Figure}
+use Rattle.figure.specs.declared.Rounded.{Rounded}
 use Rattle.figure.specs.Operations.{times_down, divided_up, times_ten, of_whole}
 use Rattle.figure.specs.Operands.{Sized, Operand}
 use Rattle.figure.proofs.Sized.{sized-≤, times_down_sized, divided_up_sized, times_ten_sized}
 use Rattle.tree.proofs.Positive.{times_down_above, of_whole_above}
 use Rattle.tree.proofs.Ranges.{count_sized}
+use Rattle.tables.specs.Internal.Told.{exact, whole}
+use Rattle.tables.proofs.Sections.{same_figure}
 
 -- ---- n², of a number of grains
 
 module _ {n : ℕ} (low : 1 ≤ n) (high : n ≤ 1000000) where
-  pub square_low : 1 ≤ n * n
+  square_low : 1 ≤ n * n
   square_low = mul-pos low low
 
-  pub square_high : n * n ≤ 1000000000000
+  square_high : n * n ≤ 1000000000000
   square_high = mul-le-mul high high
 
   pub grains_square_fits : Fits w64 (n * n)
@@ -34,6 +38,30 @@ pub record Over (moment time : Figure) (k : ℕ) (w : Figure) : Type 0 where
   pub low : 1 ≤ k
   pub high : k ≤ 1000000000000
   pub is : w ≡ of_whole k
+
+-- k is n², or n
+
+pub over_square : {moment time : Figure} {w : Rounded} {n : ℕ} → Sized 9 2000 moment → Sized 9 2000 time
+    → (0 < time.digits) × (1 ≤ n) × (n ≤ 1000000) → w ≡ whole (n * n) → Over moment time (n * n) w.figure
+over_square m t d e = record {
+  moment_sized = m;
+  time_sized = t;
+  time_above = d.0;
+  low = square_low d.1 d.2;
+  high = square_high d.1 d.2;
+  is = same_figure e;
+}
+
+pub over_grains : {moment time : Figure} {w : Rounded} {n : ℕ} → Sized 9 2000 moment → Sized 9 2000 time
+    → (0 < time.digits) × (1 ≤ n) × (n ≤ 1000000) → w ≡ exact (of_whole n) → Over moment time n w.figure
+over_grains m t d e = record {
+  moment_sized = m;
+  time_sized = t;
+  time_above = d.0;
+  low = d.1;
+  high = le_trans d.2 (lit≤ tt);
+  is = same_figure e;
+}
 
 module _ {moment time w : Figure} {k : ℕ} (o : Over moment time k w) where
   pub whole_sized : Sized 9 20 w

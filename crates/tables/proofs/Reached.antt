@@ -1,39 +1,58 @@
--- From a state and a slot to the place of the exit. Assumes nothing.
+-- From a transition's index, and from the number of an exit, to the words that begin at its own. Assumes nothing.
 use Prim.Native.Nat.{ℕ, ◌≤◌, ◌<◌}
 use mathlib.Core.Path.{◌≡◌, ap, ◌∙◌}
 use mathlib.Core.List.{List}
-use lib.ListN.{length, get_or}
+use native.Mathlib.Omega.{arith}
+use lib.ListN.{length, get_or, length-drop}
 use Rattle.word.specs.Model.{exits}
-use Rattle.model.specs.Index.{slot, exit_count, place_of, no_transition, transition}
-use Rattle.model.proofs.Slots.{counts_few, slot_small, slot_below, slot_stands, slot_exit, transition_valid}
-use Rattle.tables.specs.Internal.Described.{Indexes, described, net_of}
-use Rattle.tables.proofs.Firsts.{Placed}
+use Rattle.model.specs.declared.index.Index.{Index}
+use Rattle.model.specs.Index.{Stands, exit_count, exits_of, place_of, slot, transition_at, no_transition, transition}
+use Rattle.word.proofs.Parts.{part_from}
+use Rattle.model.proofs.Slots.{counts_few, exits_slot, slot_below, slot_exit, stands_inside}
+use Rattle.tables.specs.Internal.Described.{Indexes, StandsFirst, described, net_of}
+use Rattle.tables.proofs.Classes.{step_valid}
+use Rattle.tables.proofs.Firsts.{part_at}
 
-module _ {ws index : List ℕ} (h : Indexes ws index) {s count : ℕ} (low : s ≤ 1000) (is : count ≡ exit_count index s) where
-  pub count_is : count ≡ length (exits (net_of ws) s)
-  count_is = is ∙ h.indexed.counts_are s low
+module _ {ws : List ℕ} {index : Index} (h : Indexes ws index) {j : ℕ} (inside : j < length (net_of ws).table) where
+  module _ {place : ℕ} (at_place : place ≡ place_of index j) where
+    stands : Stands ws place (transition (net_of ws) j)
+    stands = rw at_place (h.indexed.places_are j inside)
 
-  pub count_few : count ≤ 16
-  count_few = rw is (counts_few (described ws) ws index h.valid h.indexed s low)
+    pub place_inside : place < length ws
+    place_inside = omega (arith, stands_inside stands)
 
-  module _ {i : ℕ} (more : i < count) where
-    inside : i < exit_count index s
-    inside = rw is at more
+    pub part_first : StandsFirst (part_at ws place)
+    part_first = rw (part_from ws place) (record {
+      transition = transition (net_of ws) j;
+      stands = record { inside = omega (arith, stands.inside, length-drop place ws); reads = stands.reads };
+      valid = (step_valid h.valid inside).manner;
+    })
+
+    pub part_reads : transition_at (part_at ws place) ≡ transition (net_of ws) j
+    part_reads = rw (part_from ws place) stands.reads
+
+-- ---- from a state
+
+module _ {ws : List ℕ} {index : Index} (h : Indexes ws index) {s : ℕ} (low : s ≤ 1000) {numbers : List ℕ} (are : numbers ≡ exits_of index s)
+    (count : length numbers ≡ exit_count index s) where
+  pub count_is : length numbers ≡ length (exits (net_of ws) s)
+  count_is = count ∙ h.indexed.counts_are s low
+
+  pub count_few : length numbers ≤ 16
+  count_few = rw count (counts_few (described ws) ws index h.valid h.indexed s low)
+
+  module _ {i : ℕ} (more : i < length numbers) where
+    counted : i < exit_count index s
+    counted = rw count at more
 
     pub exit_more : i < length (exits (net_of ws) s)
     exit_more = rw count_is at more
 
-    module _ {j : ℕ} (at_slot : j ≡ slot index s i) where
-      pub index_small : j < 4000
-      index_small = rw at_slot (slot_small (described ws) ws index h.valid h.indexed s i low inside)
+    is_slot : get_or numbers i 0 ≡ slot index s i
+    is_slot = ap (λ (l : List ℕ). get_or l i 0) are ∙ exits_slot index s i counted
 
-      -- the i-th exit stands at the slot's place
-      pub exit_placed : {place : ℕ} → place ≡ place_of index j → Placed ws (get_or (exits (net_of ws) s) i no_transition) place
-      exit_placed at_place = rw (at_place ∙ ap (place_of index) at_slot) (record {
-        stands = rw exit at (slot_stands (described ws) ws index h.valid h.indexed s i low inside);
-        valid = rw exit at (transition_valid (described ws) ws index h.valid h.indexed (slot index s i)
-            (slot_below (described ws) ws index h.valid h.indexed s i low inside)).manner;
-      })
-        where
-          exit : transition (net_of ws) (slot index s i) ≡ get_or (exits (net_of ws) s) i no_transition
-          exit = slot_exit (described ws) ws index h.valid h.indexed s i low inside
+    pub number_below : get_or numbers i 0 < length (net_of ws).table
+    number_below = rw is_slot (slot_below (described ws) ws index h.valid h.indexed s i low counted)
+
+    pub number_exit : transition (net_of ws) (get_or numbers i 0) ≡ get_or (exits (net_of ws) s) i no_transition
+    number_exit = ap (transition (net_of ws)) is_slot ∙ slot_exit (described ws) ws index h.valid h.indexed s i low counted

@@ -7,23 +7,24 @@ use native.Mathlib.Numerals.{add-one}
 use native.Mathlib.Omega.{arith}
 use lib.ListN.{length, get_or, drop, drop_of_length-le}
 use lib.Seq.{drop-cons}
+use Rattle.figure.specs.declared.Direction.TheVariants.{Down, Up}
 use Rattle.figure.specs.declared.Figure.{Figure}
 use Rattle.figure.specs.declared.Rounded.{Rounded}
 use Rattle.figure.specs.Rounding.{none}
-use Rattle.figure.specs.Operations.{times_up, times_down, plus_up}
+use Rattle.figure.specs.Operations.{times_up, plus_up}
 use Rattle.figure.specs.Losses.{told, times_keeps, plus_keeps}
 use Rattle.figure.proofs.Sized.{sized-≤}
 use Rattle.word.specs.Model.{Manner, Transition, Net, exits}
-use Rattle.model.specs.Index.{transition_at, no_transition}
+use Rattle.model.specs.Index.{no_transition}
 use Rattle.model.specs.Internal.Valid.{ValidManner}
 use Rattle.tree.specs.States.{figure_of, second_moment, sum_over, add_rate, add_mean_up, add_mean_down, add_moment, rate_sum, mean_up, mean_down, moment_sum}
 use Rattle.tree.specs.Marks.{second_moment_kept, sum_kept, rate_kept_by, mean_up_kept_by, mean_down_kept_by, moment_kept_by}
 use Rattle.tree.specs.Marks.{rate_sum_kept, mean_up_kept, mean_down_kept, moment_sum_kept}
 use Rattle.tree.proofs.Ranges.{none_sized, add_rate_sized, add_mean_up_sized, add_mean_down_sized, add_moment_sized}
 use Rattle.tables.specs.declared.states.Sums.{Sums}
-use Rattle.tables.specs.Internal.Told.{moment_of, sum_up_of, sum_down_of, add_told}
+use Rattle.tables.specs.Internal.Told.{times, plus, moment_of, add_told}
 use Rattle.tables.specs.Internal.Sums.{SumsSized, add_exit, sums}
-use Rattle.tables.proofs.Firsts.{Placed, part_at, placed_manner, FastRead, SlowRead}
+use Rattle.tables.proofs.Firsts.{FastRead, SlowRead}
 
 same_sums : {a a' b b' c c' d d' : Rounded} → a ≡ a' → b ≡ b' → c ≡ c' → d ≡ d'
     → ◌≡◌ {A = Sums} (record { rate = a; up = b; down = c; moment = d }) (record { rate = a'; up = b'; down = c'; moment = d' })
@@ -40,11 +41,10 @@ regrouped : (a b c d : Bool) (f : Figure) → told f (a && ((b && c) && d)) ≡ 
 regrouped a b c d f = ap (λ (k : Bool). told f (a && k)) (and_assoc b c d)
 
 module _ (s : Sums) {x : Manner} where
-  pub with_fast : {m d q : Figure} {a b w v mean low moment : Rounded} → FastRead x m d q → a ≡ told (times_up q m) (times_keeps q m)
-      → mean ≡ sum_up_of s.up a → b ≡ told (times_down q m) (times_keeps q m) → low ≡ sum_down_of s.down b → w ≡ moment_of m d
-      → v ≡ told (times_up q w.figure) (w.kept && times_keeps q w.figure) → moment ≡ sum_up_of s.moment v
+  pub with_fast : {m d q a b w v mean low moment : Rounded} → FastRead x m d q → a ≡ times Up q m → mean ≡ plus Up s.up a → b ≡ times Down q m
+      → low ≡ plus Down s.down b → w ≡ moment_of m d → v ≡ times Up q w → moment ≡ plus Up s.moment v
       → ◌≡◌ {A = Sums} (record { rate = s.rate; up = mean; down = low; moment = moment }) (add_exit s x)
-  unfolding add_exit add_told sum_up_of sum_down_of moment_of second_moment second_moment_kept
+  unfolding add_exit add_told moment_of second_moment second_moment_kept
   with_fast f ea em eb ef ew ev eo =
       let share = figure_of f.probability in
       let square = second_moment f.mean f.deviation in
@@ -52,11 +52,10 @@ module _ (s : Sums) {x : Manner} where
       (rw (eo, ev, ew, f.mean_is, f.deviation_is, f.probability_is) (regrouped s.moment.kept (second_moment_kept f.mean f.deviation)
       (times_keeps share square) (plus_keeps s.moment.figure (times_up share square)) (plus_up s.moment.figure (times_up share square)))))
 
-  pub with_slow : {r : Figure} {a rate : Rounded} → SlowRead x r → a ≡ told r true → rate ≡ sum_up_of s.rate a
+  pub with_slow : {r rate : Rounded} → SlowRead x r → rate ≡ plus Up s.rate r
       → ◌≡◌ {A = Sums} (record { rate = rate; up = s.up; down = s.down; moment = s.moment }) (add_exit s x)
-  unfolding add_exit add_told sum_up_of
-  with_slow f ea e =
-      rw f.manner (same_sums (rw (e, ea, f.rate_is)) (as_it_was s.up) (as_it_was s.down) (as_it_was s.moment))
+  unfolding add_exit add_told
+  with_slow f e = rw f.manner (same_sums (rw (e, f.rate_is)) (as_it_was s.up) (as_it_was s.down) (as_it_was s.moment))
 
 add_exit_sized : {n : ℕ} {s : Sums} (x : Manner) → 180 ≤ n → ValidManner x → SumsSized n s → SumsSized (n + 20) (add_exit s x)
 unfolding add_exit add_told
@@ -117,12 +116,12 @@ module _ (net : Net) (s : ℕ) where
   })
 
   module _ {i : ℕ} {r : Sums} (h : SummedTo net s i r) where
-    pub summed_more : {ws : List ℕ} {place : ℕ} {r' : Sums} → i < length (exits net s) → Placed ws (get_or (exits net s) i no_transition) place
-        → r' ≡ add_exit r (transition_at (part_at ws place)).manner → SummedTo net s (i + 1) r'
+    pub summed_more : {t : Transition} {r' : Sums} → i < length (exits net s) → t ≡ get_or (exits net s) i no_transition → ValidManner t.manner
+        → r' ≡ add_exit r t.manner → SummedTo net s (i + 1) r'
     unfolding sum_over
-    summed_more more p e = rw (e, placed_manner p) (record {
-      rest = rw (add-one i) (rw (drop-cons (exits net s) i no_transition more) at h.rest);
-      sized = sums-≤ (omega arith) (add_exit_sized (get_or (exits net s) i no_transition).manner (omega arith) p.valid h.sized);
+    summed_more more t-is v e = rw e (record {
+      rest = rw (add-one i, t-is) (rw (drop-cons (exits net s) i no_transition more) at h.rest);
+      sized = sums-≤ (omega arith) (add_exit_sized _ (omega arith) v h.sized);
     })
 
     pub summed_all : length (exits net s) ≤ i → r ≡ sums net s

@@ -1,17 +1,18 @@
 -- A step's share, grains and factor with their marks, worked out from figures in turn, are those of the definitions. Assumes nothing.
-use Prim.Native.Nat.{ℕ, ◌≤◌}
+use Prim.Native.Nat.{ℕ, ◌^◌, ◌≤◌}
 use mathlib.Core.Path.{◌≡◌, refl, sym, ap, ◌∙◌}
 use mathlib.Core.List.{[]}
 use lib.IntN.{pos}
 use mathlib.Core.Bool.{Bool, true, false, true≢false, false≢true}
 use Rattle.figure.specs.declared.Figure.{Figure}
 use Rattle.figure.specs.declared.Rounded.{Rounded}
-use Rattle.figure.specs.Operations.{times_down, times_ten, of_whole}
-use Rattle.figure.specs.Losses.{told, times_keeps}
+use Rattle.figure.specs.declared.Direction.TheVariants.{Down}
+use Rattle.figure.specs.Operations.{times_up, times_down, minus_down, divided_up, times_ten, of_whole}
+use Rattle.figure.specs.Losses.{told, times_keeps, plus_keeps, minus_keeps, divided_keeps, whole_keeps}
 use Rattle.figure.specs.Rounding.{none}
 use Rattle.word.specs.Model.{Manner, slow, fast, Transition, Net, is_fast, exits, has_fast}
 use Rattle.tree.specs.Paths.{Class, class1, class2, class3, class_of, class}
-use Rattle.tree.specs.States.{mission_time, time_squared, second_moment, rate_sum, mean_down, moment_sum}
+use Rattle.tree.specs.States.{figure_of, mission_time, time_squared, second_moment, rate_sum, mean_down, moment_sum}
 use Rattle.tree.specs.Upper.{share}
 use Rattle.tree.specs.Grains.{least, class2_goal, class3_goal, class2_grains, class3_grains, grains_by, grains}
 use Rattle.tree.specs.Lower.{class2_loss, class3_loss, class2_factor, class3_factor}
@@ -22,24 +23,25 @@ use Rattle.tree.proofs.Least.{least_is_least}
 use Rattle.tables.specs.declared.steps.Step.{Step}
 use Rattle.tables.specs.Internal.Steps.{class2_loss_of, class3_loss_of, class2_quotient_of, class3_quotient_of, factor_of}
 use Rattle.tables.specs.Internal.Steps.{class2_step_of, class3_step_of, step_of}
-use Rattle.tables.specs.Internal.Told.{moment_of}
+use Rattle.tables.specs.Internal.Told.{exact, times, moment_of}
 use Rattle.tables.specs.Internal.Tables.{step_factor, step_factor_kept}
+use Rattle.tables.proofs.MarkOrders.{class2_quotient_order, class3_quotient_order, class2_marks, class3_marks}
 use Rattle.tables.proofs.Firsts.{FastRead, SlowRead}
 
 pub grains_positive : (e : ℕ) (g : Figure) {n : ℕ} → n ≡ least e g → 1 ≤ n
 grains_positive e g h = rw h (least_is_least e g).positive
 
-pub class2_is : (rate : Rounded) (time : Figure) {x : Manner} {m d q goal : Figure} {moment time2 quotient y whole factor : Rounded} {n : ℕ}
-    → FastRead x m d q → moment ≡ moment_of m d → time2 ≡ told (times_down time time) (times_keeps time time)
-    → quotient ≡ class2_quotient_of moment time2 → goal ≡ times_ten quotient.figure (pos 18) → n ≡ least 3 goal
-    → y ≡ class2_loss_of rate m moment time2 n → whole ≡ told (of_whole 1) true → factor ≡ factor_of q whole y
+pub class2_is : (rate time : Rounded) {x : Manner} {m d q moment time2 quotient y all factor : Rounded} {goal : Figure} {n : ℕ} → FastRead x m d q
+    → moment ≡ moment_of m d → time2 ≡ times Down time time → quotient ≡ class2_quotient_of moment time2
+    → goal ≡ times_ten quotient.figure (pos 18) → n ≡ least 3 goal → y ≡ class2_loss_of rate m moment time2 n → all ≡ exact (of_whole 1)
+    → factor ≡ factor_of q all y
     → ◌≡◌ {A = Step} (record { share = q; grains = n; grains_kept = quotient.kept; factor = factor }) (class2_step_of rate time x)
 unfolding class2_step_of
 class2_is rate time f em et eq eg en ey ew ef =
     rw (f.manner, ef, ew, ey, en, eg, eq, em, et, f.mean_is, f.deviation_is, f.probability_is)
 
-pub class3_is : (rate mean moment : Rounded) (time : Figure) {x : Manner} {share goal : Figure} {quotient y factor : Rounded} {n : ℕ}
-    → SlowRead x share → quotient ≡ class3_quotient_of moment mean time → goal ≡ times_ten quotient.figure (pos 12) → n ≡ least 2 goal
+pub class3_is : (rate mean moment time : Rounded) {x : Manner} {share quotient y factor : Rounded} {goal : Figure} {n : ℕ} → SlowRead x share
+    → quotient ≡ class3_quotient_of moment mean time → goal ≡ times_ten quotient.figure (pos 12) → n ≡ least 2 goal
     → y ≡ class3_loss_of rate moment time n → factor ≡ factor_of share mean y
     → ◌≡◌ {A = Step} (record { share = share; grains = n; grains_kept = quotient.kept; factor = factor }) (class3_step_of rate mean moment time x)
 unfolding class3_step_of
@@ -76,9 +78,14 @@ mean_told net s = told (mean_down net s) (mean_down_kept net s)
 abbrev pub moment_told : Net → ℕ → Rounded
 moment_told net s = told (moment_sum net s) (moment_sum_kept net s)
 
+-- steps that differ only in how their marks are counted
+same_marks : {s : Rounded} {n : ℕ} {a b : Bool} {f : Figure} {k l : Bool} → a ≡ b → k ≡ l
+    → ◌≡◌ {A = Step} (record { share = s; grains = n; grains_kept = a; factor = told f k }) (record { share = s; grains = n; grains_kept = b; factor = told f l })
+same_marks ea ek = rw (ea, ek)
+
 module _ (net : Net) (t : Transition) where
   step_with : ℕ → Bool → Rounded → Step
-  step_with n k f = record { share = share t.manner; grains = n; grains_kept = k; factor = f }
+  step_with n k f = record { share = exact (share t.manner); grains = n; grains_kept = k; factor = f }
 
   -- the factor and its mark by the class, with n grains
   factor_by : Class → ℕ → Rounded
@@ -97,32 +104,61 @@ module _ (net : Net) (t : Transition) where
   of_class c e = ap (step_with (grains net [] t) (grains_kept net [] t)) (factor_told (class net t))
       ∙ ap (λ (k : Class). step_with (grains_by net k t) (grains_kept_by net k t) (factor_by k (grains_by net k t))) e
 
-  pub fast_step : is_fast t.manner ≡ true → class2_step_of (rate_told net t.from) (mission_time net) t.manner ≡ step_of net t
+  pub fast_step : is_fast t.manner ≡ true → class2_step_of (rate_told net t.from) (exact (mission_time net)) t.manner ≡ step_of net t
   unfolding step_with factor_by grains_by class2_step_of class2_quotient_of class2_loss_of factor_of moment_of
       class2_grains class2_goal class2_factor class2_loss time_squared second_moment
       class2_goal_kept class2_factor_kept class2_loss_kept time_squared_kept second_moment_kept
   fast_step h = go t.manner h ∙ sym (of_class class2 (class_fast net t h))
     where
-      go : (x : Manner) → is_fast x ≡ true → class2_step_of (rate_told net t.from) (mission_time net) x
+      go : (x : Manner) → is_fast x ≡ true → class2_step_of (rate_told net t.from) (exact (mission_time net)) x
           ≡ record {
-            share = share x;
+            share = exact (share x);
             grains = class2_grains net x;
             grains_kept = class2_grains_kept net x;
             factor = told (class2_factor net t.from x (class2_grains net x)) (class2_factor_kept net t.from x (class2_grains net x));
           }
       go (slow r) h = absurd (false≢true h)
-      go (fast m d q) h = refl
+      go (fast m d q) h =
+          let n = class2_grains net (fast m d q) in
+          let e = rate_sum net t.from in
+          let moment = second_moment m d in
+          let time2 = time_squared net in
+          let square = times_down (of_whole (n ^ 2)) time2 in
+          let y = class2_loss net t.from m d n in
+          same_marks
+          (class2_quotient_order (second_moment_kept m d) (times_keeps (of_whole 2) moment) (time_squared_kept net)
+          (divided_keeps (times_up (of_whole 2) moment) time2))
+          (class2_marks (rate_sum_kept net t.from) (times_keeps e (figure_of m)) (second_moment_kept m d) (whole_keeps (n ^ 2))
+          (time_squared_kept net) (times_keeps (of_whole (n ^ 2)) time2) (divided_keeps moment square)
+          (plus_keeps (times_up e (figure_of m)) (times_ten (divided_up moment square) (pos 12))) (minus_keeps (of_whole 1) y)
+          (times_keeps (figure_of q) (minus_down (of_whole 1) y)))
 
   slow_of : is_fast t.manner ≡ false → (b : Bool) → has_fast (exits net t.from) ≡ b → class net t ≡ class_of b (slow net.time)
   slow_of h b k = class_slow net t h ∙ ap (λ (b : Bool). class_of b (slow net.time)) k
 
   pub slow_step : is_fast t.manner ≡ false → has_fast (exits net t.from) ≡ true
-      → class3_step_of (rate_told net t.from) (mean_told net t.from) (moment_told net t.from) (mission_time net) t.manner ≡ step_of net t
+      → class3_step_of (rate_told net t.from) (mean_told net t.from) (moment_told net t.from) (exact (mission_time net)) t.manner ≡ step_of net t
   unfolding step_with factor_by grains_by class3_step_of class3_quotient_of class3_loss_of factor_of
       class3_grains class3_goal class3_factor class3_loss class3_goal_kept class3_factor_kept class3_loss_kept
-  slow_step h k = sym (of_class class3 (slow_of h true k))
+  slow_step h k =
+      let n = class3_grains net t.from in
+      let e = rate_sum net t.from in
+      let mean = mean_down net t.from in
+      let moment = moment_sum net t.from in
+      let time = mission_time net in
+      let product = times_up e moment in
+      let span = times_down (of_whole n) time in
+      let y = class3_loss net t.from n in
+      same_marks
+      (class3_quotient_order (moment_sum_kept net t.from) (mean_down_kept net t.from) (times_keeps mean time)
+      (divided_keeps moment (times_down mean time)))
+      (class3_marks (rate_sum_kept net t.from) (moment_sum_kept net t.from) (times_keeps e moment) (divided_keeps product (of_whole 2))
+      (times_keeps (of_whole n) time) (divided_keeps moment span)
+      (plus_keeps (divided_up product (of_whole 2)) (times_ten (divided_up moment span) (pos 6))) (mean_down_kept net t.from)
+      (minus_keeps mean y) (times_keeps (share t.manner) (minus_down mean y)))
+      ∙ sym (of_class class3 (slow_of h true k))
 
-  pub lone_step : is_fast t.manner ≡ false → has_fast (exits net t.from) ≡ false → {r : Figure} {f : Rounded} → SlowRead t.manner r
-      → f ≡ told none true → ◌≡◌ {A = Step} (record { share = r; grains = 0; grains_kept = true; factor = f }) (step_of net t)
+  pub lone_step : is_fast t.manner ≡ false → has_fast (exits net t.from) ≡ false → {r f : Rounded} → SlowRead t.manner r
+      → f ≡ exact none → ◌≡◌ {A = Step} (record { share = r; grains = 0; grains_kept = true; factor = f }) (step_of net t)
   unfolding step_with factor_by grains_by
   lone_step h k f e = rw (e, of_class class1 (slow_of h false k), f.manner, f.rate_is)

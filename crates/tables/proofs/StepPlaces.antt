@@ -1,5 +1,5 @@
 -- From the index of a transition to its place and to what the table holds of the state that it leaves. Assumes nothing.
-use Prim.Native.Nat.{ℕ, ◌+◌, ◌≤◌, ◌<◌}
+use Prim.Native.Nat.{ℕ, ◌≤◌, ◌<◌}
 use mathlib.Core.Path.{◌≡◌, refl, sym, ap, ap₂, ◌∙◌}
 use mathlib.Core.Bool.{Bool, true, false}
 use mathlib.Core.List.{List}
@@ -11,12 +11,11 @@ use Rattle.figure.specs.declared.Rounded.{Rounded}
 use Rattle.figure.specs.Rounding.{none}
 use Rattle.figure.specs.Operands.{Sized}
 use Rattle.figure.specs.Losses.{told}
-use Rattle.word.specs.Model.{Transition, exits, has_fast}
-use Rattle.word.specs.Words.{kind, from_field, quantity}
-use Rattle.model.specs.Index.{place_of, transition_at, no_transition, transition}
+use Rattle.word.specs.Model.{Transition, is_fast, exits, has_fast}
+use Rattle.word.specs.Words.{kind, from_field, coefficient_field, quantity}
+use Rattle.model.specs.declared.index.Index.{Index}
+use Rattle.model.specs.Index.{transition_at, transition}
 use Rattle.model.specs.Internal.Valid.{ValidTransition}
-use Rattle.word.proofs.Members.{each_lookup}
-use Rattle.model.proofs.Slots.{stands_from}
 use Rattle.tree.specs.States.{figure_of, rate_sum, mean_down, moment_sum}
 use Rattle.tree.specs.Marks.{rate_sum_kept, mean_down_kept, moment_sum_kept}
 use Rattle.tree.proofs.Positive.{Above, mean_down_zero_iff}
@@ -24,10 +23,12 @@ use Rattle.tree.proofs.Divisors.{time_above}
 use Rattle.tree.proofs.Ranges.{rate_sum_sized, mean_down_sized, moment_sum_sized, mission_time_sized}
 use Rattle.tables.specs.declared.steps.Step.{Step}
 use Rattle.tables.specs.declared.table.Table.{Table}
-use Rattle.tables.specs.Internal.Described.{described, net_of}
+use Rattle.tables.specs.Internal.Described.{Indexes, StandsFirst, described, net_of}
 use Rattle.tables.specs.Internal.Tables.{rate_sum_in, mean_down_in, moment_sum_in, rate_sum_kept_in, mean_down_kept_in, moment_sum_kept_in}
+use Rattle.tables.specs.Internal.Told.{exact}
 use Rattle.tables.specs.Internal.Steps.{StepReady, class2_step_of, class3_step_of, step_of}
-use Rattle.tables.proofs.Firsts.{Placed, part_at, word_from, placed_manner, placed_fast, behind_read}
+use Rattle.tables.proofs.Firsts.{word_from, first_fast, first_from, slow_1, slow_read}
+use Rattle.tables.proofs.Classes.{step_valid}
 use Rattle.tables.proofs.Sections.{same_figure}
 use Rattle.tables.proofs.StepLaws.{rate_told, mean_told, moment_told, fast_step, slow_step, lone_step}
 
@@ -54,78 +55,98 @@ pub record Leaves (ws : List ℕ) (table : Table) (t : Transition) (s : ℕ) : T
   pub mean : Entry (mean_held table s) (mean_told (net_of ws) t.from)
   pub moment : Entry (moment_held table s) (moment_told (net_of ws) t.from)
 
-module _ {ws index : List ℕ} {table : Table} {time : Figure} (h : StepReady ws index time table) where
-  pub time_in_range : Sized 9 40 time
-  time_in_range = rw h.time_is (mission_time_sized h.indexes.valid)
+-- a part of the words begins at a valid transition, the one with the index j, with the word w
+pub record Begun (ws : List ℕ) (j : ℕ) (part : List ℕ) (w : ℕ) : Type 0 where
+  pub first : StandsFirst part
+  pub reads : transition_at part ≡ transition (net_of ws) j
+  pub word : w ≡ get_or part 0 0
 
-  pub time_positive : Above time
-  time_positive = rw h.time_is (time_above h.indexes.valid)
+module _ {ws : List ℕ} {j : ℕ} {part : List ℕ} {w : ℕ} (b : Begun ws j part w) where
+  begun_fast : eqb (kind (get_or part 0 0)) 7 ≡ eqb (kind w) 7
+  begun_fast = ap (λ (x : ℕ). eqb (kind x) 7) (sym b.word)
 
-  module _ {j : ℕ} (inside : j < length (net_of ws).table) where
+  pub begun_manner : {k : Bool} → k ≡ eqb (kind w) 7 → is_fast (transition_at part).manner ≡ k
+  begun_manner e = first_fast b.first ∙ begun_fast ∙ sym e
+
+  pub begun_low : eqb (kind w) 7 ≡ false → coefficient_field (word_from part 1) < 1000000
+  begun_low test = slow_1 b.first (begun_fast ∙ test)
+
+module _ {ws : List ℕ} {index : Index} {table : Table} {time : Rounded} (indexes : Indexes ws index) (h : StepReady ws time table) where
+  pub time_in_range : Sized 9 40 time.figure
+  time_in_range = rw h.time_is (mission_time_sized indexes.valid)
+
+  pub time_positive : Above time.figure
+  time_positive = rw h.time_is (time_above indexes.valid)
+
+  module _ {j : ℕ} (inside : j < length (net_of ws).table) {part : List ℕ} {w s : ℕ} (b : Begun ws j part w) (s-is : s ≡ from_field w) where
+    origin_is : s ≡ (transition (net_of ws) j).from
+    origin_is = s-is ∙ ap from_field b.word ∙ first_from b.first ∙ ap (λ (u : Transition). u.from) b.reads
+
     valid_step : ValidTransition (described ws).states (transition (net_of ws) j)
-    valid_step = each_lookup (ValidTransition (described ws).states) (net_of ws).table j no_transition h.indexes.valid.table inside
+    valid_step = step_valid indexes.valid inside
 
-    module _ {place : ℕ} (at_place : place ≡ place_of index j) where
-      pub step_placed : Placed ws (transition (net_of ws) j) place
-      step_placed = record { stands = rw at_place (h.indexes.indexed.places_are j inside); valid = valid_step.manner }
+    entry : (f held : ℕ → Figure) (k marks : ℕ → Bool) → ((i : ℕ) → 1 ≤ i → i ≤ (described ws).states → held i ≡ f i)
+        → ((i : ℕ) → 1 ≤ i → i ≤ (described ws).states → marks i ≡ k i) → Sized 9 500 (f (transition (net_of ws) j).from)
+        → Entry (told (held s) (marks s)) (told (f (transition (net_of ws) j).from) (k (transition (net_of ws) j).from))
+    entry f held k marks are kept sized = record { is = same; sized = rw (same_figure same) sized }
+      where
+        same : told (held s) (marks s) ≡ told (f (transition (net_of ws) j).from) (k (transition (net_of ws) j).from)
+        same = rw origin_is (ap₂ told (are (transition (net_of ws) j).from valid_step.from_low valid_step.from_high)
+            (kept (transition (net_of ws) j).from valid_step.from_low valid_step.from_high))
 
-      module _ {s : ℕ} (origin : s ≡ from_field (get_or ws place 0)) where
-        origin_is : s ≡ (transition (net_of ws) j).from
-        origin_is = origin ∙ stands_from step_placed.stands
+    pub step_leaves : Leaves ws table (transition (net_of ws) j) s
+    step_leaves = record {
+      small = omega (arith, origin_is, valid_step.from_high, indexes.valid.states_high);
+      rate =
+          entry (rate_sum (net_of ws)) (rate_sum_in table) (rate_sum_kept (net_of ws)) (rate_sum_kept_in table) h.states.rate_sums
+          h.states.rate_sums_kept (rate_sum_sized indexes.valid _);
+      mean =
+          entry (mean_down (net_of ws)) (mean_down_in table) (mean_down_kept (net_of ws)) (mean_down_kept_in table) h.states.means_down
+          h.states.means_down_kept (mean_down_sized indexes.valid _);
+      moment =
+          entry (moment_sum (net_of ws)) (moment_sum_in table) (moment_sum_kept (net_of ws)) (moment_sum_kept_in table) h.states.moment_sums
+          h.states.moment_sums_kept (moment_sum_sized indexes.valid _);
+    }
 
-        entry : (f held : ℕ → Figure) (k marks : ℕ → Bool) → ((i : ℕ) → 1 ≤ i → i ≤ (described ws).states → held i ≡ f i)
-            → ((i : ℕ) → 1 ≤ i → i ≤ (described ws).states → marks i ≡ k i) → Sized 9 500 (f (transition (net_of ws) j).from)
-            → Entry (told (held s) (marks s)) (told (f (transition (net_of ws) j).from) (k (transition (net_of ws) j).from))
-        entry f held k marks are kept sized = record { is = same; sized = rw (same_figure same) sized }
-          where
-            same : told (held s) (marks s) ≡ told (f (transition (net_of ws) j).from) (k (transition (net_of ws) j).from)
-            same = rw origin_is (ap₂ told (are (transition (net_of ws) j).from valid_step.from_low valid_step.from_high)
-                (kept (transition (net_of ws) j).from valid_step.from_low valid_step.from_high))
+  -- ---- what was worked out of a part of the words that begins at a transition is its step
 
-        pub step_leaves : Leaves ws table (transition (net_of ws) j) s
-        step_leaves = record {
-          small = omega (arith, origin_is, valid_step.from_high, h.indexes.valid.states_high);
-          rate =
-              entry (rate_sum (net_of ws)) (rate_sum_in table) (rate_sum_kept (net_of ws)) (rate_sum_kept_in table) h.states.rate_sums
-              h.states.rate_sums_kept (rate_sum_sized h.indexes.valid _);
-          mean =
-              entry (mean_down (net_of ws)) (mean_down_in table) (mean_down_kept (net_of ws)) (mean_down_kept_in table) h.states.means_down
-              h.states.means_down_kept (mean_down_sized h.indexes.valid _);
-          moment =
-              entry (moment_sum (net_of ws)) (moment_sum_in table) (moment_sum_kept (net_of ws)) (moment_sum_kept_in table) h.states.moment_sums
-              h.states.moment_sums_kept (moment_sum_sized h.indexes.valid _);
-        }
-
-  -- ---- what was worked out is the transition's step
-
-  module _ {t : Transition} {place s : ℕ} (p : Placed ws t place) (l : Leaves ws table t s) {rate : Rounded}
+  module _ {j : ℕ} {part : List ℕ} {w s : ℕ} (b : Begun ws j part w) (l : Leaves ws table (transition (net_of ws) j) s) {rate : Rounded}
       (rate-at : rate ≡ rate_held table s) where
-    pub found_fast : eqb (kind (get_or ws place 0)) 7 ≡ true → {x : Step} → x ≡ class2_step_of rate time (transition_at (part_at ws place)).manner
-        → x ≡ step_of (net_of ws) t
-    found_fast test e = e ∙ rw (rate-at, l.rate.is, h.time_is, placed_manner p) (fast_step (net_of ws) t (placed_fast p ∙ test))
+    abbrev t : Transition
+    t = transition (net_of ws) j
 
-    module _ (test : eqb (kind (get_or ws place 0)) 7 ≡ false) {mean : Rounded} (mean-at : mean ≡ mean_held table s) where
+    fast_is : is_fast t.manner ≡ eqb (kind w) 7
+    fast_is = ap (λ (u : Transition). is_fast u.manner) (sym b.reads) ∙ first_fast b.first ∙ ap (λ (x : ℕ). eqb (kind x) 7) (sym b.word)
+
+    manner_is : (transition_at part).manner ≡ t.manner
+    manner_is = ap (λ (u : Transition). u.manner) b.reads
+
+    pub found_fast : eqb (kind w) 7 ≡ true → {x : Step} → x ≡ class2_step_of rate time (transition_at part).manner
+        → x ≡ step_of (net_of ws) t
+    found_fast test e = e ∙ rw (rate-at, l.rate.is, h.time_is, manner_is) (fast_step (net_of ws) t (fast_is ∙ test))
+
+    module _ (test : eqb (kind w) 7 ≡ false) {mean : Rounded} (mean-at : mean ≡ mean_held table s) where
       mean_is : mean ≡ mean_told (net_of ws) t.from
       mean_is = mean-at ∙ l.mean.is
 
       -- the digits of h' tell whether the state has fast exits
 
       no_fast : mean.figure.digits ≡ 0 → has_fast (exits (net_of ws) t.from) ≡ false
-      no_fast z = (mean_down_zero_iff h.indexes.valid t.from).0 (ap (λ (f : Rounded). f.figure.digits) (sym mean_is) ∙ z)
+      no_fast z = (mean_down_zero_iff indexes.valid t.from).0 (ap (λ (f : Rounded). f.figure.digits) (sym mean_is) ∙ z)
 
       some_fast : (mean.figure.digits ≡ 0 → ⊥) → has_fast (exits (net_of ws) t.from) ≡ true
-      some_fast n = go (has_fast (exits (net_of ws) t.from)) (mean_down_zero_iff h.indexes.valid t.from).1
+      some_fast n = go (has_fast (exits (net_of ws) t.from)) (mean_down_zero_iff indexes.valid t.from).1
         where
           go : (b : Bool) → (b ≡ false → (mean_down (net_of ws) t.from).digits ≡ 0) → b ≡ true
-          go true none = refl
-          go false none = absurd (n (ap (λ (f : Rounded). f.figure.digits) mean_is ∙ none refl))
+          go true zero = refl
+          go false zero = absurd (n (ap (λ (f : Rounded). f.figure.digits) mean_is ∙ zero refl))
 
-      pub found_lone : mean.figure.digits ≡ 0 → {r : Figure} {f : Rounded} → r ≡ figure_of (quantity (word_from ws (place + 1))) → f ≡ told none true
+      pub found_lone : mean.figure.digits ≡ 0 → {r f : Rounded} → r ≡ exact (figure_of (quantity (word_from part 1))) → f ≡ exact none
           → ◌≡◌ {A = Step} (record { share = r; grains = 0; grains_kept = true; factor = f }) (step_of (net_of ws) t)
-      found_lone z e n = lone_step (net_of ws) t (placed_fast p ∙ test) (no_fast z) (behind_read p test e) n
+      found_lone z e n = lone_step (net_of ws) t (fast_is ∙ test) (no_fast z) (rw manner_is at (slow_read b.first (begun_fast b ∙ test) e)) n
 
       pub found_slow : (mean.figure.digits ≡ 0 → ⊥) → {moment : Rounded} → moment ≡ moment_held table s → {x : Step}
-          → x ≡ class3_step_of rate mean moment time (transition_at (part_at ws place)).manner → x ≡ step_of (net_of ws) t
+          → x ≡ class3_step_of rate mean moment time (transition_at part).manner → x ≡ step_of (net_of ws) t
       found_slow n moment-at e =
-          e ∙ rw (rate-at, l.rate.is, mean_is, moment-at, l.moment.is, h.time_is, placed_manner p)
-          (slow_step (net_of ws) t (placed_fast p ∙ test) (some_fast n))
+          e ∙ rw (rate-at, l.rate.is, mean_is, moment-at, l.moment.is, h.time_is, manner_is)
+          (slow_step (net_of ws) t (fast_is ∙ test) (some_fast n))

@@ -70,7 +70,7 @@ module _ (net : Net) where
     pub steps_more : StepsHold net j table → StepsHold net (j + 1) (record { states = table.states; steps = set table.steps j entry })
     unfolding step_of
     steps_more h = record {
-      shares = more (λ e. unpacked e.share) (λ k. share (transition net k).manner) (packed.share ∙ ap (λ (y : Step). y.share) is) h.shares;
+      shares = more (λ e. unpacked e.share) (λ k. share (transition net k).manner) (same_figure (packed.share ∙ ap (λ (y : Step). y.share) is)) h.shares;
       factors =
           more (λ e. unpacked e.factor) (λ k. step_factor net (class net (transition net k)) (transition net k))
           (same_figure (packed.factor ∙ ap (λ (y : Step). y.factor) is)) h.factors;

@@ -5,17 +5,19 @@ use mathlib.Core.List.{List}
 use native.Mathlib.Nat.{le_trans}
 use lib.Dec.{lit≤}
 use lib.ListN.{length}
-use Rattle.figure.specs.declared.Figure.{Figure}
+use Rattle.figure.specs.declared.Rounded.{Rounded}
 use Rattle.model.specs.declared.Accepted.{Accepted}
+use Rattle.model.specs.declared.index.Index.{Index}
 use Rattle.model.specs.Promise.{summary}
 use Rattle.tree.specs.States.{figure_of}
 use Rattle.tables.specs.declared.table.Table.{Table}
 use Rattle.tables.specs.Internal.Described.{Indexes, described, net_of, exit_total}
+use Rattle.tables.specs.Internal.Told.{exact}
 use Rattle.tables.specs.Internal.Tables.{StatesHold}
 use Rattle.tables.specs.Internal.Steps.{StepReady}
 use Rattle.tables.proofs.TransitionCount.{count_is}
 
-module _ {ws index : List ℕ} (indexes : Indexes ws index) {a : Accepted} (is : a ≡ summary (described ws)) where
+module _ {ws : List ℕ} {index : Index} (indexes : Indexes ws index) {a : Accepted} (is : a ≡ summary (described ws)) where
   pub scale_small : a.time.scale ≤ 255
   scale_small = rw is (le_trans indexes.valid.time.scale (lit≤ tt))
 
@@ -28,6 +30,6 @@ module _ {ws index : List ℕ} (indexes : Indexes ws index) {a : Accepted} (is :
   pub transitions_are : {count : ℕ} → count ≡ exit_total index a.states → count ≡ length (net_of ws).table
   transitions_are e = e ∙ ap (exit_total index) states_are ∙ count_is indexes
 
-  pub steps_ready : {time : Figure} {table : Table} → time ≡ figure_of a.time → StatesHold (net_of ws) a.states table
-      → StepReady ws index time table
-  steps_ready e h = record { indexes = indexes; time_is = e ∙ ap (λ (x : Accepted). figure_of x.time) is; states = rw states_are at h }
+  pub steps_ready : {time : Rounded} {table : Table} → time ≡ exact (figure_of a.time) → StatesHold (net_of ws) a.states table
+      → StepReady ws time table
+  steps_ready e h = record { time_is = e ∙ ap (λ (x : Accepted). exact (figure_of x.time)) is; states = rw states_are at h }

@@ -12,6 +12,7 @@ use lib.Dec.{eqb}
 use borrow.Author.Tests.{eq-eqb, ne_eqb}
 use Rattle.word.specs.Model.{Transition, leaves, only, exits_in}
 use Rattle.word.specs.Internal.Lists.{Each}
+use Rattle.model.specs.declared.index.Index.{Index}
 use Rattle.model.specs.Internal.Valid.{ValidTransition}
 use Rattle.word.proofs.Members.{each_monotone}
 use Rattle.word.specs.Model.{one_if}
@@ -64,7 +65,7 @@ unfolding Each
 all_exits n [] h = no_exits n
 all_exits n (t ∷ ts) h = omega (arith, more_exits t ts n, hits_one t.from n h.0.0 h.0.1, all_exits n ts h.1)
 
-module _ {ws index : List ℕ} (ready : Indexes ws index) where
+module _ {ws : List ℕ} {index : Index} (ready : Indexes ws index) where
   sums : (n : ℕ) → n ≤ 1000 → exit_total index n ≡ exits_to (net_of ws).table n
   unfolding exit_total exits_to
   sums zero h = refl

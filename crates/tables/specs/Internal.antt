@@ -1,4 +1,5 @@
 pub mod Described
+pub mod Facts
 pub mod Told
 pub mod Tables
 pub mod Sums

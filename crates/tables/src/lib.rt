@@ -3,19 +3,22 @@
 
 ghost use Rattle.std.specs.Prelude.{◌≡◌, ◌≤◌};
 ghost use Rattle.model.specs.Promise.{summary};
-ghost use Rattle.tables.specs.Internal.Described.{Indexes, described, exit_total};
+ghost use Rattle.tables.specs.Internal.Described.{described, exit_total};
 ghost use Rattle.tables.specs.Internal.Tables.{Tabled};
 
 use crate::figures::figure_of;
+use crate::indexed::Indexed;
 use crate::states::fill_states;
 use crate::steps::fill_steps;
 use crate::table::Table;
+use figure::{Arithmetic, Rounded};
 use model::Accepted;
-use model::index::{Index, exit_count};
+use model::index::Index;
 
 pub mod class;
 pub mod figures;
 mod grains;
+pub mod indexed;
 pub mod pack;
 mod states;
 mod steps;
@@ -28,19 +31,18 @@ pub fn transition_count(index: &Index, states: usize) -> usize
 {
     let mut total = 0;
     for s in 1..=states {
-        total += exit_count(index, s);
+        total += index.exit_count(s);
     }
     total
 }
 
 // Fills the table for an accepted model, whatever it held.
-pub fn fill(words: &[u32], index: &Index, a: Accepted, table: &mut Table)
-    requires { Indexes words.now index.now × (a ≡ summary (described words.now)) }
-    ensures { Tabled words.now table.new }
+pub fn fill(model: Indexed, a: Accepted, table: &mut Table)
+    requires { a ≡ summary (described model.words.now) }
+    ensures { Tabled model.entry.words.now table.new }
 {
-    let t = a.time;
-    let time = figure_of(t);
-    let count = transition_count(index, a.states);
-    fill_states(words, index, a.states, table);
-    fill_steps(words, index, count, time, table);
+    let time = Rounded::exact(figure_of(a.time));
+    let count = transition_count(model.index, a.states);
+    fill_states(model, a.states, table);
+    fill_steps(model, count, time, table);
 }

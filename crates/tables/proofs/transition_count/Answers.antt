@@ -1,14 +1,14 @@
 -- `transition_count` meets its contract: the loop's total is the sum below s. Assumes nothing.
 use mathlib.Core.Path.{◌≡◌, refl, ap, ap₂, ◌∙◌}
 use Prim.Native.Nat.{ℕ, suc, ◌+◌, ◌-◌, ◌≤◌}
-use mathlib.Core.List.{List}
 use native.Mathlib.Omega.{arith}
+use Rattle.model.specs.declared.index.Index.{Index}
 use Rattle.model.specs.Index.{exit_count}
 use Rattle.tables.specs.Internal.Described.{exit_total}
 use Rattle.tables.proofs.transition_count.Goals as goal
 
 -- with the exits of the state s those up to it
-more : (index : List ℕ) (s total n : ℕ) → 1 ≤ s → total ≡ exit_total index (s - 1) → n ≡ exit_count index s → total + n ≡ exit_total index s
+more : (index : Index) (s total n : ℕ) → 1 ≤ s → total ≡ exit_total index (s - 1) → n ≡ exit_count index s → total + n ≡ exit_total index s
 unfolding exit_total
 more index s total n low p q =
     let back : s ≡ suc (s - 1) = omega arith in

@@ -3,6 +3,7 @@ use Rattle.std.specs.Prelude.{ℕ, zero, suc, ◌+◌, List}
 use Rattle.word.specs.Model.{Transition, Net, Model}
 use Rattle.word.specs.Words.{quantity}
 use Rattle.word.specs.Answer.{Answer, refused, granted}
+use Rattle.model.specs.declared.index.Index.{Index}
 use Rattle.model.specs.Reading.{at_head, read_from, empty_model}
 use Rattle.model.specs.Index.{Indexed, Stands, exit_count}
 use Rattle.model.specs.Internal.Valid.{Valid, ValidManner}
@@ -18,13 +19,13 @@ described ws = model_or_none (read_from at_head 0 ws)
 abbrev pub net_of : List ℕ → Net
 net_of ws = (described ws).net
 
--- the words describe a valid model, and the array is its index
-pub record Indexes (ws index : List ℕ) : Type 0 where
+-- the words describe a valid model, and the index is theirs
+pub record Indexes (ws : List ℕ) (index : Index) : Type 0 where
   pub valid : Valid (described ws)
   pub indexed : Indexed (described ws) ws index
 
 -- the exits of the states from 1 to n, as an index counts them
-unfoldable pub exit_total : List ℕ → ℕ → ℕ
+unfoldable pub exit_total : Index → ℕ → ℕ
 exit_total index zero = 0
 exit_total index (suc n) = exit_total index n + exit_count index (suc n)
 

@@ -7,19 +7,19 @@ use Rattle.tables.proofs.StatesFilled.{states_none, states_more, states_all, sum
 use Rattle.tables.proofs.states.fill_states.Goals as goal
 
 pub loop-s-init : goal.loop-s-init
-loop-s-init c = states_none (net_of c.args.words.now) c.args.table.now
+loop-s-init c = states_none (net_of c.args.model.words.now) c.args.table.now
 
 pub packed-requires : goal.packed-requires
-packed-requires c = sums_sized c.requires.0.valid c.loop-s.s c.sums_of-x.ensures
+packed-requires c = sums_sized c.args.model.indexes.valid c.loop-s.s c.sums_of-x.ensures
 
 pub loop-s-preserved : goal.loop-s-preserved
 loop-s-preserved c =
-    states_more (net_of c.args.words.now) c.loop-s.table c.packed.result (search rules) c.sums_of-x.ensures c.packed.ensures c.loop-s.invariant
+    states_more (net_of c.args.model.words.now) c.loop-s.table c.packed.result (search rules) c.sums_of-x.ensures c.packed.ensures c.loop-s.invariant
 
 pub returns : goal.returns
-returns c = states_all (net_of c.args.words.now) (omega arith) c.loop-s.invariant
+returns c = states_all (net_of c.args.model.words.now) (omega arith) c.loop-s.invariant
 
 pub returns-2 : goal.returns-2
 returns-2 c =
-    states_all (net_of c.args.words.now) {s = c.loop-s.s + 1} (omega arith)
-    (states_more (net_of c.args.words.now) c.loop-s.table c.packed.result (search rules) c.sums_of-x.ensures c.packed.ensures c.loop-s.invariant)
+    states_all (net_of c.args.model.words.now) {s = c.loop-s.s + 1} (omega arith)
+    (states_more (net_of c.args.model.words.now) c.loop-s.table c.packed.result (search rules) c.sums_of-x.ensures c.packed.ensures c.loop-s.invariant)

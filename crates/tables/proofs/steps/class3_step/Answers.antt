@@ -40,19 +40,19 @@ class3_quotient-quotient-requires c =
 pub times_ten-requires : goal.times_ten-requires
 unfolding class3_quotient_of
 times_ten-requires c =
-    let quotient_is : c.class3_quotient-quotient.result.figure ≡ divided_up c.args.moment.figure (times_down c.args.mean.figure c.args.time) =
+    let quotient_is : c.class3_quotient-quotient.result.figure ≡ divided_up c.args.moment.figure (times_down c.args.mean.figure c.args.time.figure) =
     same_figure c.class3_quotient-quotient.ensures in
-    let span_above : Above (times_down c.args.mean.figure c.args.time) =
-    times_down_above c.args.mean.figure c.args.time c.requires.digits_nonzero.0 c.requires.digits_nonzero.1 in
+    let span_above : Above (times_down c.args.mean.figure c.args.time.figure) =
+    times_down_above c.args.mean.figure c.args.time.figure c.requires.digits_nonzero.0 c.requires.digits_nonzero.1 in
     (rw quotient_is (sized-≤ (lit≤ tt) (divided_up_sized c.requires.sized.2 (times_down_sized c.requires.sized.1 c.requires.sized.3) span_above)), lit≤ tt)
 
 pub least-n-requires : goal.least-n-requires
 unfolding class3_quotient_of
 least-n-requires c =
-    let quotient_is : c.class3_quotient-quotient.result.figure ≡ divided_up c.args.moment.figure (times_down c.args.mean.figure c.args.time) =
+    let quotient_is : c.class3_quotient-quotient.result.figure ≡ divided_up c.args.moment.figure (times_down c.args.mean.figure c.args.time.figure) =
     same_figure c.class3_quotient-quotient.ensures in
-    let span_above : Above (times_down c.args.mean.figure c.args.time) =
-    times_down_above c.args.mean.figure c.args.time c.requires.digits_nonzero.0 c.requires.digits_nonzero.1 in
+    let span_above : Above (times_down c.args.mean.figure c.args.time.figure) =
+    times_down_above c.args.mean.figure c.args.time.figure c.requires.digits_nonzero.0 c.requires.digits_nonzero.1 in
     let goal_sized : Sized 9 1100 c.times_ten.result = rw (c.times_ten.ensures, quotient_is)
     (goal3_sized c.requires.sized.2 c.requires.sized.1 c.requires.sized.3 span_above) in
     goal_sized.is_figure

@@ -63,39 +63,39 @@ figure_at-q-requires c =
     let is_seven : eqb (kind (get_or c.args.part.now 0 0)) 7 ≡ true = sym c.is_fast.ensures ∙ c.if-is_fast.true in
     fast_3 c.requires.0 is_seven
 
-pub times_up_telling-requires : goal.times_up_telling-requires
-times_up_telling-requires c =
+pub times-requires : goal.times-requires
+times-requires c =
     let is_seven : eqb (kind (get_or c.args.part.now 0 0)) 7 ≡ true = sym c.is_fast.ensures ∙ c.if-is_fast.true in
     let fast_figures : FastRead (transition_at c.args.part.now).manner c.figure_at-m.result c.figure_at-d.result c.figure_at-q.result =
     fast_read c.requires.0 is_seven c.figure_at-m.ensures c.figure_at-d.ensures c.figure_at-q.ensures in
     let f = fast_figures in (sized-≤ (lit≤ tt) (probability_sized f), sized-≤ (lit≤ tt) (mean_sized f))
 
-pub added_up-more_up-requires : goal.added_up-more_up-requires
-added_up-more_up-requires c =
+pub plus-up-requires : goal.plus-up-requires
+plus-up-requires c =
     let is_seven : eqb (kind (get_or c.args.part.now 0 0)) 7 ≡ true = sym c.is_fast.ensures ∙ c.if-is_fast.true in
     let fast_figures : FastRead (transition_at c.args.part.now).manner c.figure_at-m.result c.figure_at-d.result c.figure_at-q.result =
     fast_read c.requires.0 is_seven c.figure_at-m.ensures c.figure_at-d.ensures c.figure_at-q.ensures in
     let f = fast_figures in (
       sized-≤ (lit≤ tt) c.requires.1.up,
-      rw c.times_up_telling.ensures
+      rw c.times.ensures
           (sized-≤ (lit≤ tt) (times_up_sized (probability_sized f) (mean_sized f))),
     )
 
-pub times_down_telling-requires : goal.times_down_telling-requires
-times_down_telling-requires c =
+pub times-requires-then-is_fast : goal.times-requires-then-is_fast
+times-requires-then-is_fast c =
     let is_seven : eqb (kind (get_or c.args.part.now 0 0)) 7 ≡ true = sym c.is_fast.ensures ∙ c.if-is_fast.true in
     let fast_figures : FastRead (transition_at c.args.part.now).manner c.figure_at-m.result c.figure_at-d.result c.figure_at-q.result =
     fast_read c.requires.0 is_seven c.figure_at-m.ensures c.figure_at-d.ensures c.figure_at-q.ensures in
     let f = fast_figures in (sized-≤ (lit≤ tt) (probability_sized f), sized-≤ (lit≤ tt) (mean_sized f))
 
-pub added_down-more_down-requires : goal.added_down-more_down-requires
-added_down-more_down-requires c =
+pub plus-down-requires : goal.plus-down-requires
+plus-down-requires c =
     let is_seven : eqb (kind (get_or c.args.part.now 0 0)) 7 ≡ true = sym c.is_fast.ensures ∙ c.if-is_fast.true in
     let fast_figures : FastRead (transition_at c.args.part.now).manner c.figure_at-m.result c.figure_at-d.result c.figure_at-q.result =
     fast_read c.requires.0 is_seven c.figure_at-m.ensures c.figure_at-d.ensures c.figure_at-q.ensures in
     let f = fast_figures in (
       sized-≤ (lit≤ tt) c.requires.1.down,
-      rw c.times_down_telling.ensures
+      rw c.times-then-is_fast.ensures
           (sized-≤ (lit≤ tt) (times_down_sized (probability_sized f) (mean_sized f))),
     )
 
@@ -106,9 +106,9 @@ second_moment-requires c =
     fast_read c.requires.0 is_seven c.figure_at-m.ensures c.figure_at-d.ensures c.figure_at-q.ensures in
     let f = fast_figures in (sized-≤ (lit≤ tt) (mean_sized f), sized-≤ (lit≤ tt) (deviation_sized f))
 
-pub by_moment-requires : goal.by_moment-requires
+pub times-product-requires : goal.times-product-requires
 unfolding moment_of
-by_moment-requires c =
+times-product-requires c =
     let is_seven : eqb (kind (get_or c.args.part.now 0 0)) 7 ≡ true = sym c.is_fast.ensures ∙ c.if-is_fast.true in
     let fast_figures : FastRead (transition_at c.args.part.now).manner c.figure_at-m.result c.figure_at-d.result c.figure_at-q.result =
     fast_read c.requires.0 is_seven c.figure_at-m.ensures c.figure_at-d.ensures c.figure_at-q.ensures in
@@ -116,23 +116,23 @@ by_moment-requires c =
     (sized-≤ (lit≤ tt) (plus_up_sized (times_up_sized (mean_sized f) (mean_sized f)) (times_up_sized (deviation_sized f) (deviation_sized f)))) in
     let f = fast_figures in (sized-≤ (lit≤ tt) (probability_sized f), sized-≤ (lit≤ tt) moment_operand)
 
-pub added_up-more_moment-requires : goal.added_up-more_moment-requires
+pub plus-moment-requires : goal.plus-moment-requires
 unfolding moment_of
-added_up-more_moment-requires c =
+plus-moment-requires c =
     let is_seven : eqb (kind (get_or c.args.part.now 0 0)) 7 ≡ true = sym c.is_fast.ensures ∙ c.if-is_fast.true in
     let fast_figures : FastRead (transition_at c.args.part.now).manner c.figure_at-m.result c.figure_at-d.result c.figure_at-q.result =
     fast_read c.requires.0 is_seven c.figure_at-m.ensures c.figure_at-d.ensures c.figure_at-q.ensures in
     let moment_operand : Sized 9 200 c.second_moment.result.figure = let f = fast_figures in rw c.second_moment.ensures
     (sized-≤ (lit≤ tt) (plus_up_sized (times_up_sized (mean_sized f) (mean_sized f)) (times_up_sized (deviation_sized f) (deviation_sized f)))) in
-    (sized-≤ (lit≤ tt) c.requires.1.moment, rw c.by_moment.ensures (sized-≤ (lit≤ tt) (times_up_sized (probability_sized fast_figures) moment_operand)))
+    (sized-≤ (lit≤ tt) c.requires.1.moment, rw c.times-product.ensures (sized-≤ (lit≤ tt) (times_up_sized (probability_sized fast_figures) moment_operand)))
 
 pub returns-then-is_fast : goal.returns-then-is_fast
 returns-then-is_fast c =
     let is_seven : eqb (kind (get_or c.args.part.now 0 0)) 7 ≡ true = sym c.is_fast.ensures ∙ c.if-is_fast.true in
     let fast_figures : FastRead (transition_at c.args.part.now).manner c.figure_at-m.result c.figure_at-d.result c.figure_at-q.result =
     fast_read c.requires.0 is_seven c.figure_at-m.ensures c.figure_at-d.ensures c.figure_at-q.ensures in
-    with_fast c.args.self fast_figures c.times_up_telling.ensures c.added_up-more_up.ensures c.times_down_telling.ensures c.added_down-more_down.ensures
-    c.second_moment.ensures c.by_moment.ensures c.added_up-more_moment.ensures
+    with_fast c.args.self fast_figures c.times.ensures c.plus-up.ensures c.times-then-is_fast.ensures c.plus-down.ensures
+    c.second_moment.ensures c.times-product.ensures c.plus-moment.ensures
 
 pub slice_bounds-figure_at-count-2 : goal.slice_bounds-figure_at-count-2
 slice_bounds-figure_at-count-2 c = omega (arith, first_long c.requires.0)
@@ -145,14 +145,14 @@ figure_at-requires c =
     let not_seven : eqb (kind (get_or c.args.part.now 0 0)) 7 ≡ false = sym c.is_fast.ensures ∙ c.if-is_fast.false in
     slow_1 c.requires.0 not_seven
 
-pub added_up-more_rate-requires : goal.added_up-more_rate-requires
-added_up-more_rate-requires c =
+pub plus-rate-requires : goal.plus-rate-requires
+plus-rate-requires c =
     let not_seven : eqb (kind (get_or c.args.part.now 0 0)) 7 ≡ false = sym c.is_fast.ensures ∙ c.if-is_fast.false in
     let slow_figure : SlowRead (transition_at c.args.part.now).manner c.figure_at.result = slow_read c.requires.0 not_seven c.figure_at.ensures in
-    (sized-≤ (lit≤ tt) c.requires.1.rate, rw c.exactly.ensures (sized-≤ (lit≤ tt) (rate_sized slow_figure)))
+    (sized-≤ (lit≤ tt) c.requires.1.rate, sized-≤ (lit≤ tt) (rate_sized slow_figure))
 
 pub returns : goal.returns
 returns c =
     let not_seven : eqb (kind (get_or c.args.part.now 0 0)) 7 ≡ false = sym c.is_fast.ensures ∙ c.if-is_fast.false in
     let slow_figure : SlowRead (transition_at c.args.part.now).manner c.figure_at.result = slow_read c.requires.0 not_seven c.figure_at.ensures in
-    with_slow c.args.self slow_figure c.exactly.ensures c.added_up-more_rate.ensures
+    with_slow c.args.self slow_figure c.plus-rate.ensures

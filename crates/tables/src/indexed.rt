@@ -1,0 +1,27 @@
+// An accepted model as the tables and the walk take it: its words with their index.
+ghost use Rattle.std.specs.Prelude.{◌≡◌, ◌<◌, length};
+ghost use Rattle.model.specs.Index.{transition, transition_at};
+ghost use Rattle.tables.specs.Internal.Described.{Indexes, StandsFirst, net_of};
+ghost use Rattle.tables.specs.Internal.Facts.{indexes_prop};
+
+use model::index::Index;
+
+// The words of an accepted model, and the index of its exits that reading them has filled.
+#[derive(Clone, Copy)]
+pub struct Indexed<'a> {
+    pub words: &'a [u32],
+    pub index: &'a Index,
+    pub ghost indexes: { Indexes words.now index.now } by { indexes_prop words.now index.now },
+}
+
+impl<'a> Indexed<'a> {
+    // The words from that of the transition j on.
+    pub fn part(self, j: usize) -> &'a [u32]
+        requires { j < length (net_of self.words.now).table }
+        ensures stands_first { StandsFirst result.now }
+        ensures reads { transition_at result.now ≡ transition (net_of self.entry.words.now) j }
+    {
+        let at = self.index.place_of(j);
+        &self.words[at..]
+    }
+}
