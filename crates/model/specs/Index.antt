@@ -45,7 +45,7 @@ transition net j = get_or net.table j no_transition
 -- ---- the index: for each state from 0 to 1,000 its exits and its flag, a place for each transition
 
 -- the exits of the state s; past the last state, none
-abbrev no_exits : StateExits
+unfoldable pub no_exits : StateExits
 no_exits = record { slots = replicate 16 0; count = 0; named = false; few = lit≤ tt }
 
 abbrev pub exits_at : Index → ℕ → StateExits

@@ -1,7 +1,6 @@
 // The sums of the probabilities of each state's fast exits, in whole numbers of 10^-12.
 ghost use Rattle.std.specs.Prelude.{ℕ, ◌-◌, ◌*◌, ◌^◌, ◌≤◌, ◌≡◌, get_or};
 ghost use Rattle.word.specs.Words.{scale_field, coefficient_field};
-ghost use Rattle.model.specs.Index.{exit_count};
 ghost use Rattle.model.specs.Internal.Parts.{
   slot_transitions,
   uneven_by,
@@ -11,7 +10,7 @@ ghost use Rattle.model.specs.Internal.Parts.{
 };
 
 use crate::index::Index;
-use word::fields::{is_fast, quantity_at, word_at};
+use word::fields::{is_fast, quantity_at};
 
 // The probability at the part's first word, as a whole number of 10^-12.
 #[tactic(auto, using(crate::proofs::Units::units_high))]
@@ -23,15 +22,15 @@ fn units(part: &[u32]) -> u64
     u64::from(q.coefficient) * 10u64.pow(12u32.saturating_sub(q.scale))
 }
 
-// The sum of the probabilities of the fast ones among the exits that the first n slots of the state s lead to.
-fn fast_sum(words: &[u32], index: &Index, s: usize, n: usize) -> Option<u64>
-    requires { Leads words.now index.now s n }
-    ensures { IsFastSum (slot_transitions words.now index.now s n) result }
+// The sum of the probabilities of the fast exits of the state s.
+fn fast_sum(words: &[u32], index: &Index, s: usize) -> Option<u64>
+    requires { Leads words.now index.now s }
+    ensures { IsFastSum (slot_transitions words.now index.now s) result }
 {
     let mut sum = None;
-    for i in 0..n {
-        let at = index.slot_place(s, i);
-        if is_fast(word_at(&words[at..])) {
+    for &j in index.exits(s) {
+        let at = index.place_of(usize::from(j));
+        if is_fast(words[at]) {
             let third = at + 3;
             sum = Some(sum.unwrap_or(0) + units(&words[third..]));
         }
@@ -41,21 +40,20 @@ fn fast_sum(words: &[u32], index: &Index, s: usize, n: usize) -> Option<u64>
 
 // Has the state s fast exits whose probabilities do not sum to 1?
 fn uneven(words: &[u32], index: &Index, s: usize) -> bool
-    requires { Leads words.now index.now s (exit_count index.now s) }
+    requires { Leads words.now index.now s }
     ensures { result ≡ uneven_by words.now index.now s }
 {
-    let n = index.exit_count(s);
-    fast_sum(words, index, s, n).is_some_and(|sum| sum != 1_000_000_000_000)
+    fast_sum(words, index, s).is_some_and(|sum| sum != 1_000_000_000_000)
 }
 
 // The lowest such state of 1 to `states`, by the exits that the index leads to.
 pub(crate) fn lowest_uneven(words: &[u32], states: usize, index: &Index) -> Option<usize>
-    requires { (states ≤ 1000) × ((s : ℕ) → s ≤ states → Leads words.now index.now s (exit_count index.now s)) }
+    requires { (states ≤ 1000) × ((s : ℕ) → s ≤ states → Leads words.now index.now s) }
     ensures { IsLowestOf (uneven_by words.now index.now) states result }
 {
     (1..states + 1).find(
         |&s|
-            requires { Leads words.now index.now s (exit_count index.now s) }
+            requires { Leads words.now index.now s }
         { uneven(words, index, s) },
     )
 }

@@ -12,22 +12,17 @@ use word::fields::{from, is_fast, word_at};
 use word::kinds::Kind;
 use word::{Refusal, faults};
 
-// Tests 8 and 9 of the word w, of which a state has n exits and the table `known` transitions so far.
+// Tests 8 and 9 of the word w, where the table has `known` transitions so far.
 #[tactic(auto, unfolding(word::specs::Internal::Tests::first_fault))]
-fn room(
-    words: &[u32],
-    w: u32,
-    at: usize,
-    n: usize,
-    known: usize,
-    index: &Index,
-) -> Result<(), Refusal>
-    requires { parts.Leads words.now index.now (fields.from_field w) n }
-    ensures { answer result ≡ first_fault (parts.room_faults words.now index.now n known w) at }
+fn room(words: &[u32], w: u32, at: usize, known: usize, index: &Index) -> Result<(), Refusal>
+    requires { parts.Leads words.now index.now (fields.from_field w) }
+    ensures { answer result ≡ first_fault (parts.room_faults words.now index.now known w) at }
 {
-    let new = !index.stood(words, from(w), n, w);
+    let s = from(w);
+    let new = !index.stood(words, s, w);
     ensure(new, Refusal::DuplicateTransition(at))?;
-    ensure(n < 16 && known < 4000, Refusal::TooManyTransitions(at))
+    let few = index.exit_count(s) < 16 && known < 4000;
+    ensure(few, Refusal::TooManyTransitions(at))
 }
 
 // The words behind a transition's own, from place `at` on: the rate; or the mean, the deviation and the probability.
@@ -53,8 +48,7 @@ fn tested(words: &[u32], a: Accepted, at: usize, known: usize, index: &Index) ->
 {
     let w = word_at(&words[at..]);
     faults::transition(w, at, a.states)?;
-    let n = index.exit_count(from(w));
-    room(words, w, at, n, known, index)?;
+    room(words, w, at, known, index)?;
     body(words, at + 1, is_fast(w))
 }
 

@@ -43,26 +43,25 @@ along f (suc n) i = f i ∷ along f n (suc i)
 abbrev pub slot_place : Index → ℕ → ℕ → ℕ
 slot_place index s i = place_of index (slot index s i)
 
--- the words, and the transitions, that the first n slots of the state s lead to
-abbrev pub slot_words : List ℕ → Index → ℕ → ℕ → List ℕ
-slot_words ws index s n = along (λ i. get_or ws (slot_place index s i) 0) n 0
+-- the words, and the transitions, that the exits of the state s lead to
+abbrev pub slot_words : List ℕ → Index → ℕ → List ℕ
+slot_words ws index s = along (λ i. get_or ws (slot_place index s i) 0) (exit_count index s) 0
 
-abbrev pub slot_transitions : List ℕ → Index → ℕ → ℕ → List Transition
-slot_transitions ws index s n = along (λ i. transition_at (drop (slot_place index s i) ws)) n 0
+abbrev pub slot_transitions : List ℕ → Index → ℕ → List Transition
+slot_transitions ws index s = along (λ i. transition_at (drop (slot_place index s i) ws)) (exit_count index s) 0
 
--- The first n slots of the state s lead to transitions' words: each holds an index below 4,000, and a fast transition has its three words behind it.
-pub record Leads (ws : List ℕ) (index : Index) (s n : ℕ) : Type 0 where
+-- The exits of the state s lead to transitions' words: each has an index below 4,000, and a fast transition has its three words behind it.
+pub record Leads (ws : List ℕ) (index : Index) (s : ℕ) : Type 0 where
   pub state : s ≤ 1000
-  pub few : n ≤ 16
-  pub low : (i : ℕ) → i < n → slot index s i < 4000
-  pub inside : (i : ℕ) → i < n → slot_place index s i < length ws
-  pub whole : (i : ℕ) → i < n → kind (get_or ws (slot_place index s i) 0) ≡ 7 → slot_place index s i + 3 < length ws
+  pub low : (i : ℕ) → i < exit_count index s → slot index s i < 4000
+  pub inside : (i : ℕ) → i < exit_count index s → slot_place index s i < length ws
+  pub whole : (i : ℕ) → i < exit_count index s → kind (get_or ws (slot_place index s i) 0) ≡ 7 → slot_place index s i + 3 < length ws
 
 -- tests 8 and 9 of the word w, by the index: with bits 27 to 24 zero, the same kind, from and to is the same word
-abbrev pub room_faults : List ℕ → Index → ℕ → ℕ → ℕ → List Fault
-room_faults ws index n known w =
-    (any (eqb w) (slot_words ws index (from_field w) n) gives 8)
-    ∷ (leb 16 n || leb 4000 known gives 9)
+abbrev pub room_faults : List ℕ → Index → ℕ → ℕ → List Fault
+room_faults ws index known w =
+    (any (eqb w) (slot_words ws index (from_field w)) gives 8)
+    ∷ (leb 16 (exit_count index (from_field w)) || leb 4000 known gives 9)
     ∷ []
 
 -- the fast ones of these exits have probabilities that do not sum to 1
@@ -75,7 +74,7 @@ IsFastSum ts r = MatchOption r (has_fast ts ≡ false) (λ sum. (has_fast ts ≡
 
 -- whether the fast exits of the state s have such probabilities, by the index
 abbrev pub uneven_by : List ℕ → Index → ℕ → Bool
-uneven_by ws index s = sums_uneven (slot_transitions ws index s (exit_count index s))
+uneven_by ws index s = sums_uneven (slot_transitions ws index s)
 
 -- whether the state s is named and has exits, by the index
 abbrev pub leads_on_by : Index → ℕ → Bool

@@ -1,23 +1,33 @@
--- `model::index::Index::stood` meets its contract: whether w is among the words of the slots from i on is whether it is among them all.
--- Assumes nothing.
-use Rattle.std.proofs.Common.{◌≡◌, sym, ap, ◌∙◌, ℕ, get_or}
-use borrow.Author.Tests.{eq-eqb, ne_eqb}
-use Rattle.model.specs.Internal.Parts.{slot_place}
-use Rattle.word.proofs.Parts.{part_word}
-use Rattle.model.proofs.Along.{any_here, any_later, any_none_left}
+-- `model::index::Index::stood` meets its contract: it asks of each exit's word whether it is w. Assumes nothing.
+use Rattle.std.proofs.Common.{◌≡◌, ◌<◌, ◌+◌, length, ℕ, ap, ◌∙◌, sym, List, get_or, arith, rules, tests}
+use Rattle.std.proofs.iter.Serving.{serving}
+use Rattle.std.proofs.lemmas.Iterator.{YieldsList-from_slice}
+use Rattle.std.proofs.lemmas.Iterator.Search.{any_from_yields_List}
+use lib.Dec.{eqb}
+use Rattle.word.specs.Model.{any}
+use Rattle.model.specs.Index.{place_of, exits_of, exit_count}
+use Rattle.model.specs.Internal.Parts.{along, slot_place}
+use Rattle.model.proofs.Along.{any_listed}
+use Rattle.model.proofs.Slots.{items_slot}
 use Rattle.model.proofs.index.Index.stood.Goals as goal
 
-pub returns-then-w-word_at : goal.returns-then-w-word_at
-returns-then-w-word_at c =
-    let word_is : c.word_at.result ≡ get_or c.args.words.now (slot_place c.args.self.now c.args.s c.loop-i.i) 0 = c.word_at.ensures
-    ∙ part_word c.args.words.now _ ∙ ap (λ (k : ℕ). get_or c.args.words.now k 0) c.slot_place-at.ensures.0 in
-    sym (sym c.loop-i.invariant ∙ any_here _ _ _ c.loop-i.i c.loop-i-test.true (eq-eqb _ _ (c.if-w-word_at.true ∙ word_is)))
-
-pub loop-i-preserved : goal.loop-i-preserved
-loop-i-preserved c =
-    let word_is : c.word_at.result ≡ get_or c.args.words.now (slot_place c.args.self.now c.args.s c.loop-i.i) 0 = c.word_at.ensures
-    ∙ part_word c.args.words.now _ ∙ ap (λ (k : ℕ). get_or c.args.words.now k 0) c.slot_place-at.ensures.0 in
-    sym (any_later _ _ _ c.loop-i.i c.loop-i-test.true (ne_eqb _ _ (λ e. c.if-w-word_at.false (e ∙ sym word_is)))) ∙ c.loop-i.invariant
+pub any-requires-clause-callable : goal.any-requires-clause-callable
+any-requires-clause-callable c =
+    let items = c.iter.result.rest.now in
+    let same : items ≡ exits_of c.args.self.now c.args.s = cc in
+    let count : length items ≡ exit_count c.args.self.now c.args.s = ap length c.iter.ensures.rest ∙ c.exits.ensures.len in
+    let each : (k d : ℕ) → k < length items → (get_or items k d < 4000) × (place_of c.args.self.now (get_or items k d) < length c.args.words.now) =
+    (λ k d h. let more : k < exit_count c.args.self.now c.args.s = omega arith in
+    rw (items_slot c.args.self.now c.args.s items same count k d h) (c.requires.low k more, c.requires.inside k more)) in
+    grind (arith, serving, each)
 
 pub returns : goal.returns
-returns c = sym (sym c.loop-i.invariant ∙ any_none_left _ _ _ c.loop-i.i c.loop-i-test.false)
+returns c =
+    let word : ℕ → ℕ = λ j. get_or c.args.words.now (place_of c.args.self.now j) 0 in
+    let from_slot : ℕ → ℕ = λ i. get_or c.args.words.now (slot_place c.args.self.now c.args.s i) 0 in
+    let items = c.exits.result.now in
+    let each : (k : ℕ) → k < length items → from_slot (0 + k) ≡ word (get_or items k 0) =
+    (λ k h. sym (ap word (items_slot c.args.self.now c.args.s items c.exits.ensures.value c.exits.ensures.len k 0 h))) in
+    any_from_yields_List (λ (j : ℕ). eqb c.args.w (word j)) _ _ _ c.any.ensures.ran (YieldsList-from_slice items cc) (λ x b q k. search (rules, tests))
+    ∙ any_listed (eqb c.args.w) from_slot word items 0 each
+    ∙ ap (λ (n : ℕ). any (eqb c.args.w) (along from_slot n 0)) c.exits.ensures.len
