@@ -5,7 +5,7 @@ ghost use Rattle.model.specs.Internal.Parts.{IsOpened, NamedAs, IsLowestOf, lead
 
 use crate::Accepted;
 use crate::index::Index;
-use word::fields::{named_state, word_at};
+use word::fields::named_state;
 use word::kinds::Kind;
 use word::{Refusal, faults};
 
@@ -17,21 +17,17 @@ pub(crate) fn name_states(words: &[u32], a: Accepted, index: &mut Index) -> Resu
     ensures { NamedAs a words.now index.new result }
 {
     index.clear();
-    let states = a.states;
-    let mut at: usize = 4;
     let mut last: usize = 0;
-    let mut count: usize = 0;
-    loop {
-        let w = word_at(&words[at..]);
+    for (count, &w) in words[4..].iter().enumerate() {
+        let at = 4 + count;
         if !Kind::NamedState.is_of(w) {
             return Ok(at);
         }
-        faults::named(w, at, states, last, count)?;
+        faults::named(w, at, a.states, last, count)?;
         last = named_state(w);
         index.name(last);
-        count += 1;
-        at += 1;
     }
+    Ok(words.len())
 }
 
 // Is the state s named, and has it exits?

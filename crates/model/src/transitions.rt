@@ -118,6 +118,7 @@ pub(crate) fn list(
     requires words_len_bound { length words.now ≤ most_words }
     ensures { parts.Listed a words.now index.new result }
 {
+    // kept: (d) the place of each transition follows from the word before, so no range or iterator gives it
     let mut at: usize = first;
     let mut known: usize = 0;
     while let Some(behind) = next(words, a, at, known, index)? {

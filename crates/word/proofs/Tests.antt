@@ -14,9 +14,6 @@ inside least most n e = let (low, high) = neither (ltb n least) (ltb most n) e i
 pub inside_test : (least most n : ℕ) → least ≤ n → n ≤ most → outside least most n ≡ false
 inside_test least most n low high = rw (le-ltb n least low, le-ltb most n high)
 
-pub below_test : (least most n : ℕ) → n < least → outside least most n ≡ true
-below_test least most n low = rw (lt-ltb n least low)
-
 pub above_test : (least most n : ℕ) → most < n → outside least most n ≡ true
 above_test least most n high = rw (lt-ltb most n high, or-true)
 

@@ -1,8 +1,6 @@
 -- `model::probabilities::fast_sum` meets its contract: a running sum over the exits. Assumes nothing.
 use Rattle.std.proofs.Common.{◌≡◌, ◌<◌, ◌≤◌, sym, ap, ◌∙◌, arith, ℕ, ◌+◌, ◌∷◌, List, get_or, drop}
-use lib.Dec.{eqb}
 use borrow.Author.Tests.{eqb-true, eqb-false}
-use Rattle.word.specs.Words.{kind}
 use Rattle.model.specs.Index.{exit_count, place_of, transition_at}
 use Rattle.model.specs.Internal.Parts.{slot_place, slot_transitions}
 use Rattle.word.proofs.Parts.{part_from}

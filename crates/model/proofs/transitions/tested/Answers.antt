@@ -5,7 +5,6 @@ use lib.Dec.{eqb}
 use Rattle.word.specs.Words.{kind, from_field}
 use Rattle.word.specs.Answer.{granted}
 use Rattle.word.specs.Internal.Tests.{first_fault, field_faults}
-use Rattle.model.specs.Index.{exit_count}
 use Rattle.model.specs.Internal.Parts.{words_answer, body_faults}
 use Rattle.word.proofs.Parts.{part_word}
 use Rattle.model.proofs.Filled.{leads}

@@ -1,8 +1,9 @@
 -- `model::index::Index::stood` meets its contract: it asks of each exit's word whether it is w. Assumes nothing.
-use Rattle.std.proofs.Common.{◌≡◌, ◌<◌, ◌+◌, length, ℕ, ap, ◌∙◌, sym, List, get_or, arith, rules, tests}
+use Rattle.std.proofs.Common.{◌≡◌, ◌<◌, ◌+◌, length, ℕ, ap, ◌∙◌, sym, get_or, arith, rules, tests}
 use Rattle.std.proofs.iter.Serving.{serving}
 use Rattle.std.proofs.lemmas.Iterator.{YieldsList-from_slice}
 use Rattle.std.proofs.lemmas.Iterator.Search.{any_from_yields_List}
+use native.Mathlib.Nat.{zero-add}
 use lib.Dec.{eqb}
 use Rattle.word.specs.Model.{any}
 use Rattle.model.specs.Index.{place_of, exits_of, exit_count}
@@ -27,7 +28,7 @@ returns c =
     let from_slot : ℕ → ℕ = λ i. get_or c.args.words.now (slot_place c.args.self.now c.args.s i) 0 in
     let items = c.exits.result.now in
     let each : (k : ℕ) → k < length items → from_slot (0 + k) ≡ word (get_or items k 0) =
-    (λ k h. sym (ap word (items_slot c.args.self.now c.args.s items c.exits.ensures.value c.exits.ensures.len k 0 h))) in
+    (λ k h. ap from_slot (zero-add k) ∙ sym (ap word (items_slot c.args.self.now c.args.s items c.exits.ensures.value c.exits.ensures.len k 0 h))) in
     any_from_yields_List (λ (j : ℕ). eqb c.args.w (word j)) _ _ _ c.any.ensures.ran (YieldsList-from_slice items cc) (λ x b q k. search (rules, tests))
     ∙ any_listed (eqb c.args.w) from_slot word items 0 each
     ∙ ap (λ (n : ℕ). any (eqb c.args.w) (along from_slot n 0)) c.exits.ensures.len
