@@ -43,6 +43,7 @@ fn put_report(r: Report, values: &mut [u64; 9], powers: &mut [i32; 3])
 }
 
 // The number of an answer, 0 for a report, and its numbers.
+// kept: numbers, as all that C is answered.
 fn put_answer(a: Result<Report, Refusal>, values: &mut [u64; 9], powers: &mut [i32; 3]) -> u64
     ensures { AnswerPut a result values.new powers.new }
 {
@@ -97,6 +98,7 @@ pub extern "C" fn bounds_text(words: &[u32], budget: u64, text: &mut [u8; 256]) 
 {
     let answer = words_text(words, budget);
     let bytes = answer.as_slice();
+    *text = [0; 256];
     text[..bytes.len()].copy_from_slice(bytes);
     bytes.len()
 }
@@ -112,6 +114,7 @@ pub extern "C" fn bounds_words(bytes: &[u8], words: &mut [u32; WORDS_SIZE]) -> u
 }
 
 // What `bounds_at_or_below` answers where one of the two is no figure.
+// kept: a number, as all that C is answered.
 const NO_FIGURE: u64 = 2;
 
 // How a figure, given by its digits and its power of ten, compares with a limit: 1 if it is at or below the limit, 0 if it is above, 2 if one of

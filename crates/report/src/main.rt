@@ -8,6 +8,7 @@ use std::io::Read;
 // Reads until the buffer is full or the input ends, and answers what was read.
 fn read_input<'a, R: Read>(from: &mut R, buffer: &'a mut [u8]) -> io::Result<&'a [u8]> {
     let mut len = 0;
+    // kept: a read may give any number of bytes, so that no range counts the turns
     while len < buffer.len() {
         let more = from.read(&mut buffer[len..])?;
         if more == 0 {

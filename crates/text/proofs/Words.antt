@@ -16,11 +16,14 @@ use Rattle.word.specs.Model.{Model}
 use Rattle.word.specs.Answer.{Answer, refused, then}
 use Rattle.model.specs.Reading.{most_words, read, first_of}
 use Rattle.tree.specs.Report.{answer, walked}
-use Rattle.text.specs.Bytes.{words_of, words_size, most_bytes, Spelled}
-use Rattle.text.specs.Internal.Words.{word_at}
+use Rattle.text.specs.Bytes.{word, words_of, words_size, most_bytes, Spelled}
 use Rattle.text.specs.Faithful.{AnswerEnough}
 
 -- ---- from the front
+
+-- the word of a list's first four bytes
+abbrev pub word_at : List ℕ → ℕ
+word_at l = word (get_or l 0 0) (get_or l 1 0) (get_or l 2 0) (get_or l 3 0)
 
 pub next_word : (l : List ℕ) → 4 ≤ length l → words_of l ≡ word_at l ∷ words_of (drop 4 l)
 unfolding words_of

@@ -1,2 +1,1 @@
 pub mod Growing
-pub mod Words

@@ -1,6 +1,6 @@
 // The words of some bytes: four bytes a word, least significant first; left-over bytes are one more word, of no kind.
 ghost use Rattle.std.specs.Prelude.{◌≤◌, ◌≡◌, length, take};
-ghost use Rattle.text.specs.Bytes.{words_size, most_bytes, Spelled};
+ghost use Rattle.text.specs.Bytes.{most_bytes, Spelled};
 
 use model::MOST_WORDS;
 
@@ -11,10 +11,11 @@ pub const WORDS_SIZE: usize = MOST_WORDS + 1;
 pub const BYTES_SIZE: usize = 4 * WORDS_SIZE;
 
 fn fill(bytes: &[u8], words: &mut [u32; WORDS_SIZE]) -> usize
-    requires { (length bytes.now ≤ most_bytes) × (length words.old ≡ words_size) }
+    requires { length bytes.now ≤ most_bytes }
     ensures { Spelled bytes.now words.new result }
 {
     let (wholes, rest) = bytes.as_chunks::<4>();
+    // kept: by index, since of words that an adapter of `iter_mut` lends nothing is known after the loop
     for (i, whole) in wholes.iter().enumerate() {
         words[i] = u32::from_le_bytes(*whole);
     }
@@ -28,6 +29,7 @@ fn fill(bytes: &[u8], words: &mut [u32; WORDS_SIZE]) -> usize
 
 // Puts the words of the bytes at the start of `words`, and answers how many there are. Of more than `BYTES_SIZE` bytes it takes the first `BYTES_SIZE`:
 // these are already more words than a model may have. The lent bytes are unchanged; what `words` holds behind its words is free.
+// kept: their number, and not a slice of them, since `bounds_words` hands it on to C.
 pub fn words_of(bytes: &[u8], words: &mut [u32; WORDS_SIZE]) -> usize
     ensures spelled { Spelled (take most_bytes bytes.now) words.new result }
     ensures bytes_value { bytes.now ≡ bytes.now }

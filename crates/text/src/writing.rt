@@ -1,4 +1,5 @@
 // Text that grows at its end. Each function hands back the text with something more behind it, and requires that there is room.
+// kept: each asks for the room of what it writes, since how much that is no type tells.
 ghost use Rattle.std.specs.Prelude.{◌+◌, ◌%◌, ◌≡◌, List, ℕ, [], ◌∷◌, ◌++◌, pos, ◌+ℤ◌};
 ghost use Rattle.text.specs.Text.{digits_within, last_digits, signed_decimal, figure_text, line, decimal, figure_lines, count_lines, mark_digit, exact_line, refusal_text};
 ghost use Rattle.word.specs.Refusal.{number, place};
@@ -9,7 +10,7 @@ use figure::Figure;
 use word::Refusal;
 
 // What is written in one way at a text's end.
-// kept: not std's `Display`. `write!` promises the text only where it answers `Ok`, and nothing promises that it does: `holds` of `answer_text`, `words_text`,
+// kept: not std's `Display`, which was tried. Of `write!` the text is known where it answers `Ok`, and nothing says that it does: `holds` of `words_text`,
 // `answered` and `report`, which is said of every call, would be lost.
 pub(crate) trait Written {
     // The bytes that it is written as.
@@ -129,6 +130,7 @@ impl Text {
     }
 
     // The decimal digits of n, `most` of them at most.
+    // kept: by recursion, as the definition is; a loop gives the last digit first, and needs a buffer to turn them round.
     fn with_decimal(self, n: u64, most: usize) -> Self
         requires { Room self (digits_within most n) }
         ensures { result ≡ self ++ digits_within most n }

@@ -3,11 +3,12 @@
 #![tactic(auto)]
 
 use std::io::Read;
-use text::bytes::{BYTES_SIZE, WORDS_SIZE};
+use text::bytes::BYTES_SIZE;
 
 // Reads until the buffer is full, the input ends or a read fails, and answers what was read.
 fn read_full<'a, R: Read>(from: &mut R, buffer: &'a mut [u8]) -> &'a [u8] {
     let mut len = 0;
+    // kept: a read may give any number of bytes, so that no range counts the turns
     while len < buffer.len() {
         let more = from.read(&mut buffer[len..]).unwrap_or(0);
         if more == 0 {
@@ -29,19 +30,18 @@ fn next_bytes<'a, R: Read>(from: &mut R, n: u32, buffer: &'a mut [u8]) -> &'a [u
 
 // Writes the name of the next model and the answer to it, and says whether there was one.
 fn next_model<R: Read, P: Print>(from: &mut R, rt: &P) -> bool {
-    let mut sizes = [0; 12];
-    if read_full(from, &mut sizes).len() < 12 {
+    let mut header = [[0; 4]; 3];
+    if read_full(from, header.as_flattened_mut()).len() < 12 {
         return false;
     }
-    let mut header = [0; WORDS_SIZE];
-    text::bytes::words_of(&sizes, &mut header);
+    let [name_size, model_size, budget] = header.map(u32::from_le_bytes);
     let mut name = [0; 64];
     // where the name cannot be written, neither can the answer, and that is told
-    rt.write_all(next_bytes(from, header[0], &mut name))
+    rt.write_all(next_bytes(from, name_size, &mut name))
         .is_err();
     let mut model = [0; BYTES_SIZE];
-    let bytes = next_bytes(from, header[1], &mut model);
-    let answer = text::answers::answered(bytes, u64::from(header[2]));
+    let bytes = next_bytes(from, model_size, &mut model);
+    let answer = text::answers::answered(bytes, u64::from(budget));
     rt.write_all(answer.as_slice()).is_ok()
 }
 
