@@ -4,15 +4,18 @@ use mathlib.Core.Bool.{Bool, true, false}
 use Prim.Native.Nat.{ℕ, ◌+◌, ◌≤◌}
 use native.Mathlib.Omega.{arith}
 use lib.Dec.{lit≤}
+use Rattle.figure.specs.declared.Direction.{Direction}
+use Rattle.figure.specs.declared.Direction.TheVariants.{Down, Up}
 use Rattle.figure.specs.declared.Figure.{Figure}
 use Rattle.figure.specs.Rounding.{IsFigure}
 use Rattle.figure.specs.Operands.{Sized}
-use Rattle.figure.specs.Operations.{plus_up, plus_down, of_whole, at_or_below}
+use Rattle.figure.specs.Operations.{plus_up, plus_down, times, plus, minus, of_whole, at_or_below}
 use Rattle.figure.proofs.Rounding.{up_figure, down_figure}
 use Rattle.figure.proofs.Sized.{sized-≤, sized_2000, of_whole_sized, times_up_sized, times_down_sized, plus_up_sized, plus_down_sized, minus_up_sized, minus_down_sized}
 use Rattle.orprob.specs.declared.Pair.{Pair}
 use Rattle.orprob.specs.Pairs.{IsPair}
 use Rattle.orprob.specs.Combination.{at_most_one, with_upper, with_lower}
+use Rattle.orprob.specs.Internal.Parts.{with}
 
 pub plus_up_figure : (a b : Figure) → IsFigure 9 (plus_up a b)
 unfolding plus_up
@@ -63,3 +66,29 @@ module _ {m : ℕ} {s p : Figure} (a : Sized 9 m s) (b : Sized 9 2000 p) where
   unfolding with_lower
   with_lower_sized = one_sized _ (omega arith)
       (sized-≤ (omega arith) (plus_down_sized a (times_down_sized b (minus_down_sized (of_whole_sized 1 (lit≤ tt)) a))))
+
+-- ---- one subsystem more, rounded either way
+
+module _ (to : Direction) {s p : Figure} (a : Sized 9 40000 s) (b : Sized 9 2000 p) where
+  pub rest_sized : Sized 9 40100 (minus to (of_whole 1) s)
+  rest_sized = go to
+    where
+      go : (to : Direction) → Sized 9 40100 (minus to (of_whole 1) s)
+      go Up = sized-≤ (lit≤ tt) (minus_up_sized (of_whole_sized 1 (lit≤ tt)) a)
+      go Down = sized-≤ (lit≤ tt) (minus_down_sized (of_whole_sized 1 (lit≤ tt)) a)
+
+  pub share_sized : Sized 9 42200 (times to p (minus to (of_whole 1) s))
+  share_sized = go to rest_sized
+    where
+      go : (to : Direction) → Sized 9 40100 (minus to (of_whole 1) s) → Sized 9 42200 (times to p (minus to (of_whole 1) s))
+      go Up r = sized-≤ (lit≤ tt) (times_up_sized b r)
+      go Down r = sized-≤ (lit≤ tt) (times_down_sized b r)
+
+pub plus_figure : (to : Direction) (s p : Figure) → IsFigure 9 (plus to s p)
+plus_figure Up s p = plus_up_figure s p
+plus_figure Down s p = plus_down_figure s p
+
+pub with_is : (to : Direction) (s p : Figure) → at_most_one (plus to s (times to p (minus to (of_whole 1) s))) ≡ with to s p
+unfolding with_upper with_lower
+with_is Up s p = refl
+with_is Down s p = refl

@@ -3,10 +3,11 @@ ghost use Rattle.std.specs.Prelude.{◌≡◌, ◌≤◌, length};
 ghost use Rattle.figure.specs.Rounding.{IsFigure};
 ghost use Rattle.figure.specs.Operands.{Sized};
 ghost use Rattle.orprob.specs.Combination as definition;
+ghost use Rattle.orprob.specs.Internal.Parts as parts;
 ghost use Rattle.orprob.specs.Internal.Parts.{Right};
 
 use crate::Pair;
-use figure::Figure;
+use figure::{Direction, Figure};
 
 // f, or 1 where f is above it.
 fn at_most_one(f: Figure) -> Figure
@@ -17,22 +18,13 @@ fn at_most_one(f: Figure) -> Figure
     if f.at_or_below(one) { f } else { one }
 }
 
-// s with one subsystem more, p being its probability: s + p * (1 - s), each operation rounded up.
-fn with_upper(s: Figure, p: Figure) -> Figure
+// s with one subsystem more, p being its probability: s + p * (1 - s), each operation rounded the same way.
+fn with(to: Direction, s: Figure, p: Figure) -> Figure
     requires { Sized 9 40000 s × Sized 9 2000 p }
-    ensures { result ≡ definition.with_upper s p }
+    ensures { result ≡ parts.with to s p }
 {
-    let rest = Figure::of_whole(1).minus_up(s);
-    at_most_one(s.plus_up(p.times_up(rest)))
-}
-
-// The same, rounded down.
-fn with_lower(s: Figure, p: Figure) -> Figure
-    requires { Sized 9 40000 s × Sized 9 2000 p }
-    ensures { result ≡ definition.with_lower s p }
-{
-    let rest = Figure::of_whole(1).minus_down(s);
-    at_most_one(s.plus_down(p.times_down(rest)))
+    let rest = Figure::of_whole(1).minus(s, to);
+    at_most_one(s.plus(p.times(rest, to), to))
 }
 
 // Both sides of the pairs.
@@ -44,8 +36,8 @@ pub(crate) fn both_sides(pairs: &[Pair]) -> Pair
     let mut lower = Figure::zero();
     let mut upper = Figure::zero();
     for x in pairs {
-        lower = with_lower(lower, x.lower);
-        upper = with_upper(upper, at_most_one(x.upper));
+        lower = with(Direction::Down, lower, x.lower);
+        upper = with(Direction::Up, upper, at_most_one(x.upper));
     }
     Pair { lower, upper }
 }
