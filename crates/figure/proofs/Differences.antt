@@ -55,12 +55,9 @@ module _ (to : Direction) (a b : Figure) where
 
 -- ---- the second's power not above the first's
 
-module _ {a b : Figure} {g : ℕ} (o : Ordered 9 a b) (g-is : pos g ≡ stored a.power -ℤ stored b.power) where
+module _ {a b : Figure} {g : ℕ} (o : Ordered 9 a b) (g-is : pos g ≡ a.power -ℤ b.power) where
   raised : b.power +ℤ pos g ≡ a.power
-  raised = ap (λ z. b.power +ℤ z) gap_is ∙ +ℤ_comm b.power (a.power -ℤ b.power) ∙ -ℤ-+ℤ_cancel a.power b.power
-    where
-      gap_is : pos g ≡ a.power -ℤ b.power
-      gap_is = read_difference a.power b.power (room tt o.first.near) (room tt o.second.near) g-is
+  raised = ap (λ z. b.power +ℤ z) g-is ∙ +ℤ_comm b.power (a.power -ℤ b.power) ∙ -ℤ-+ℤ_cancel a.power b.power
 
   lowered : a.power -ℤ pos g ≡ b.power
   lowered = ap (λ z. z -ℤ pos g) (sym raised) ∙ +ℤ-neg_ℤ_cancel b.power (pos g)

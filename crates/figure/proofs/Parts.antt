@@ -17,9 +17,16 @@ use Rattle.figure.specs.declared.Figure.{Figure}
 use Rattle.figure.specs.declared.Direction.{Direction}
 use Rattle.figure.specs.declared.Direction.TheVariants.{Down, Up}
 use Rattle.figure.specs.declared.division.Part.{Part}
+use Rattle.figure.specs.declared.division.Width.{Width}
+use Rattle.figure.specs.declared.division.Width.TheVariants.{Nine, Eighteen}
 use Rattle.figure.specs.Rounding.{figure}
-use Rattle.figure.specs.Internal.Steps.{Width, part, shorter, carry, directed, trimmed}
+use Rattle.figure.specs.Internal.Steps.{Digits, digits_of, part, shorter, carry, directed, trimmed}
 use Rattle.figure.proofs.Stored.{stored, kept, mag_sum, read_sum}
+
+-- the digits that the code rounds to are a number that it works with
+pub within : (w : Width) → Digits (digits_of w)
+within Nine = record { some = lit≤ tt; most = lit≤ tt }
+within Eighteen = record { some = lit≤ tt; most = lit≤ tt }
 
 abbrev pub parts : ℕ → Bool → Part
 parts q b = record { whole = q; rest = b }
@@ -86,7 +93,7 @@ module _ (p : Part) (d : ℕ) {q : Part} (e : q ≡ part p.whole d) where
 
 -- ---- digits that may be one too many
 
-pub digits_fit : {K d : ℕ} → Width K → d < 10 ^ K → d < 10 ^ 18
+pub digits_fit : {K d : ℕ} → Digits K → d < 10 ^ K → d < 10 ^ 18
 digits_fit k h = lt_of_lt_of_le h (pow-le-pow_right (zero-lt-suc 9) k.most)
 
 pub carry_full : (K : ℕ) (e : ℤ) → carry K (10 ^ K) e ≡ figure (10 ^ (K - 1)) (e +ℤ pos 1)
@@ -107,7 +114,7 @@ module _ (e : ℤ) (h : mag e ≤ 1000000) where
   next_kept : {s : ℤ} → s ≡ stored e +ℤ pos 1 → stored s ≡ e +ℤ pos 1
   next_kept r = ap stored (read_sum e (pos 1) (omega arith) (lit≤ tt) r) ∙ kept (e +ℤ pos 1) (omega (arith, mag_sum e (pos 1)))
 
-  pub carried_full : {K d t : ℕ} {s : ℤ} → Width K → t ≡ 10 ^ K → d ≡ t → s ≡ stored e +ℤ pos 1 → figure (t / 10) (stored s) ≡ carry K d e
+  pub carried_full : {K d t : ℕ} {s : ℤ} → Digits K → t ≡ 10 ^ K → d ≡ t → s ≡ stored e +ℤ pos 1 → figure (t / 10) (stored s) ≡ carry K d e
   carried_full {K} k p q r = rw (q, p) (ap₂ figure (tenth K k.some) (next_kept r) ∙ sym (carry_full K e))
 
   pub carried_short : (K d : ℕ) {t : ℕ} → t ≡ 10 ^ K → (d ≡ t → ⊥) → figure d (stored e) ≡ carry K d e

@@ -9,8 +9,8 @@ use native.Mathlib.Omega.{arith, patom}
 use lib.Dec.{ltb, leb, lit≤}
 use lib.IntN.{ℤ, pos, ◌+ℤ◌}
 use lib.Signed.{mag}
-use mir.Syntax.{w64}
-use mir.Val.{Fits, bool_byte}
+use mir.Syntax.{w32, w64}
+use mir.Val.{SFits, Fits, bool_byte}
 use borrow.Author.Tests.{ltb-true, ltb-false, lt-ltb, le-ltb, le-leb, lt-leb}
 use Rattle.fraction.specs.Fraction.{◌*ᶠ◌}
 use Rattle.fraction.proofs.Ratio.{◌≈◌, ofℕ, ◌⊗◌, ≈_sym, ≈_trans, ⊗_cong, ofℕ-⊗}
@@ -30,7 +30,7 @@ use Rattle.figure.proofs.Scale.{pow_pos, exponent-<}
 use Rattle.figure.proofs.Digits.{digits_above, digits_below}
 use Rattle.figure.proofs.Value.{val}
 use Rattle.figure.proofs.Operations.{value_times}
-use Rattle.figure.proofs.Stored.{stored, kept, kept_near, mag_sum, read_sum}
+use Rattle.figure.proofs.Stored.{stored, kept, kept_near, mag_sum, read_sum, both_fit, sum_near as sum_small}
 use Rattle.figure.proofs.Parts.{part_below}
 use Rattle.figure.proofs.PartsRounded.{rounded_part}
 use Rattle.figure.proofs.Figures.{digits_high, digits_low, room, rounded_zero, over_tens}
@@ -160,6 +160,9 @@ module _ {a b : Figure} (oa : Operand 9 a) (ob : Operand 9 b) where
 
     pub product_powers : (mag (stored s) ≤ 1000000000) × (mag (stored z.dropped) ≤ 1000000000)
     product_powers = (kept_near s (omega (arith, sum_near)), kept_near z.dropped (omega (arith, dropped_near)))
+
+    pub product_fits_power : SFits w32 (stored s +ℤ stored z.dropped)
+    product_fits_power = both_fit ◌+ℤ◌ sum_small s z.dropped (omega (arith, sum_near)) (omega (arith, dropped_near))
 
     pub product_below : z.part.whole < 10 ^ 9
     product_below = part_below (a.digits * b.digits) (10 ^ nine.k) (10 ^ 9) nine.part_is (pow_pos nine.k) nine.high

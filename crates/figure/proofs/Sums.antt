@@ -22,11 +22,11 @@ use Rattle.figure.specs.declared.Direction.{Direction}
 use Rattle.figure.specs.declared.division.Part.{Part}
 use Rattle.figure.specs.Rounding.{value, IsFigure}
 use Rattle.figure.specs.Operands.{Sized}
-use Rattle.figure.specs.Internal.Steps.{rounded, Width, Ordered, Alignable, part, trimmed, gap_of, aligned_sum}
+use Rattle.figure.specs.Internal.Steps.{rounded, Digits, Ordered, Alignable, part, trimmed, gap_of, aligned_sum}
 use Rattle.figure.proofs.Scale.{pow_pos}
 use Rattle.figure.proofs.Value.{val, value_is}
 use Rattle.figure.proofs.Operations.{value_plus}
-use Rattle.figure.proofs.Stored.{stored, kept, read_difference, gap_pos, in_order, out_of_order}
+use Rattle.figure.proofs.Stored.{stored, kept, gap_pos, in_order, out_of_order}
 use Rattle.figure.proofs.Parts.{parts, some, some_left, at_part, part_split, digits_fit}
 use Rattle.figure.proofs.PartsRounded.{Over, rounded_trimmed}
 use Rattle.figure.proofs.Figures.{digits_high, digits_low, room, rounded_own, rounded_same}
@@ -64,7 +64,7 @@ module _ {K : ℕ} {a b : Figure} (sa : Sized K 200000 a) (sb : Sized K 200000 b
     order = out_of_order a.power b.power (room tt sa.near) (room tt sb.near) h;
   }
 
-pub alignable : {K : ℕ} {a b : Figure} → Width K → Ordered K a b → Alignable a b
+pub alignable : {K : ℕ} {a b : Figure} → Digits K → Ordered K a b → Alignable a b
 alignable k o = record {
   first_high = digits_fit k (digits_high o.first.is_figure);
   second_high = digits_fit k (digits_high o.second.is_figure);
@@ -82,7 +82,7 @@ module _ {a b : Figure} (al : Alignable a b) where
   pub whole_fits : (g : ℕ) {l : Part} → l ≡ part b.digits (10 ^ g) → Fits w64 (a.digits + l.whole)
   whole_fits g e = rw e (unfold part in omega (arith, al.first_high, al.second_high, div-le_self b.digits (10 ^ g)))
 
-  pub aligned_is : (g : ℕ) {l : Part} → pos g ≡ stored a.power -ℤ stored b.power → l ≡ part b.digits (10 ^ g)
+  pub aligned_is : (g : ℕ) {l : Part} → pos g ≡ a.power -ℤ b.power → l ≡ part b.digits (10 ^ g)
       → parts (a.digits + l.whole) l.rest ≡ aligned_sum a b
   unfolding aligned_sum
   aligned_is g f e =
@@ -90,7 +90,7 @@ module _ {a b : Figure} (al : Alignable a b) where
       (sym (aligned_parts a.digits b.digits (10 ^ gap_of a b) (pow_pos (gap_of a b))))
     where
       gap_is : g ≡ gap_of a b
-      gap_is = ap nat_abs (read_difference a.power b.power (room tt al.first_near) (room tt al.second_near) f)
+      gap_is = ap nat_abs f
 
 pub aligned_small : {K : ℕ} {a b : Figure} {p : Part} → Ordered K a b → p ≡ aligned_sum a b → p.whole < 10 * 10 ^ K
 unfolding aligned_sum
@@ -141,19 +141,19 @@ sum_rounded to w {a} {b} o =
 -- ---- the code's sum, of any width
 
 -- a statement of every number of digits from 1 on
-by_width : (P : ℕ → Type 0) → ((w : ℕ) → P (suc w)) → {K : ℕ} → Width K → P K
+by_width : (P : ℕ → Type 0) → ((w : ℕ) → P (suc w)) → {K : ℕ} → Digits K → P K
 by_width P f {K} k = go K k.some
   where
     go : (n : ℕ) → 0 < n → P n
     go zero h = absurd (lt_irrefl 0 h)
     go (suc w) h = f w
 
-module _ (to : Direction) {K : ℕ} (k : Width K) where
+module _ (to : Direction) {K : ℕ} (k : Digits K) where
   pub sum_answer : {a b : Figure} {p : Part} {r : Figure} → Ordered K a b → p ≡ aligned_sum a b → r ≡ trimmed to K p (stored a.power)
       → r ≡ rounded to K (value a +ᶠ value b)
   sum_answer {a} {b} o e q = q ∙ ap₂ (trimmed to K) e (kept a.power (omega (arith, o.first.near))) ∙ at_width k o
     where
-      at_width : {n : ℕ} → Width n → Ordered n a b → trimmed to n (aligned_sum a b) a.power ≡ rounded to n (value a +ᶠ value b)
+      at_width : {n : ℕ} → Digits n → Ordered n a b → trimmed to n (aligned_sum a b) a.power ≡ rounded to n (value a +ᶠ value b)
       at_width = by_width (λ n. Ordered n a b → trimmed to n (aligned_sum a b) a.power ≡ rounded to n (value a +ᶠ value b))
           (λ w. sum_rounded to w)
 

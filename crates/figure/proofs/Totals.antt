@@ -15,7 +15,7 @@ use Rattle.figure.specs.declared.Direction.{Direction}
 use Rattle.figure.specs.declared.division.Part.{Part}
 use Rattle.figure.specs.Rounding.{figure, none, value, IsFigure, is_zero, is_whole}
 use Rattle.figure.specs.Operands.{Operand, Sized}
-use Rattle.figure.specs.Internal.Steps.{rounded, Width, Ordered, part, shorter, directed, trimmed, gap_of, aligned_sum, widening}
+use Rattle.figure.specs.Internal.Steps.{rounded, Digits, Ordered, part, shorter, directed, trimmed, gap_of, aligned_sum, widening}
 use Rattle.figure.proofs.Scale.{pow_pos, ten_shift}
 use Rattle.figure.proofs.Value.{val, value_is}
 use Rattle.figure.proofs.Operations.{value_plus}
@@ -25,10 +25,10 @@ use Rattle.figure.proofs.PartsRounded.{over_lift, rounded_part, rounded_trimmed}
 use Rattle.figure.proofs.Figures.{digits_high, digits_low, zero_is_none, room, rounded_own, rounded_same, over_tens}
 use Rattle.figure.proofs.Sums.{aligned_small, sum_over}
 
-pub nine : Width 9
+pub nine : Digits 9
 nine = record { some = lit≤ tt; most = lit≤ tt }
 
-pub eighteen : Width 18
+pub eighteen : Digits 18
 eighteen = record { some = lit≤ tt; most = lit≤ tt }
 
 -- ---- a figure of nine digits, with eighteen

@@ -4,7 +4,7 @@ use Prim.Native.Nat.{ℕ, ◌+◌, ◌-◌, ◌*◌, ◌/◌, ◌^◌, ◌≤◌
 use native.Mathlib.Nat.{mul-le-mul_right, mul-lt-mul_of_pos_right, div-lt_iff_lt-mul}
 use native.Mathlib.Omega.{arith}
 use lib.Dec.{lit≤}
-use lib.IntN.{ℤ, pos, neg_ℤ, ◌+ℤ◌, ◌-ℤ◌}
+use lib.IntN.{ℤ, pos, neg_ℤ, ◌+ℤ◌, ◌-ℤ◌, +ℤ_idl}
 use lib.Pow.{pow-add}
 use lib.Signed.{mag}
 use mir.Syntax.{w64}
@@ -116,14 +116,18 @@ pub of_whole_answer : (to : Direction) (n : ℕ) {r : Figure} → r ≡ rounded 
 of_whole_answer to n e =
     e ∙ ap (rounded to 9) (value_is (figure n (pos 0))) ∙ rounded_same to 8 (ten_units n) ∙ ap (rounded to 9) (signed_whole n)
 
-module _ (p : ℕ) {z : ℤ} (h : p ≤ 255) (z-is : z ≡ neg_ℤ (pos p)) where
-  power_kept : stored z ≡ neg_ℤ (pos p)
-  power_kept = ap stored z-is ∙ kept (neg_ℤ (pos p)) (omega (arith, mag_negative (pos p)))
+module _ (p : ℕ) (h : p ≤ 255) where
+  -- the power as the code has it: 0 less p
+  abbrev power : ℤ
+  power = pos 0 -ℤ stored (pos p)
 
-  pub quantity_power : mag (stored z) ≤ 200000
-  quantity_power = rw power_kept (omega (arith, mag_negative (pos p)))
+  power_is : power ≡ neg_ℤ (pos p)
+  power_is = ap (λ y. pos 0 -ℤ y) (kept (pos p) (omega arith)) ∙ +ℤ_idl (neg_ℤ (pos p))
 
-  pub quantity_answer : (to : Direction) (c : ℕ) {m : ℕ} {r : Figure} → m ≡ c → r ≡ rounded to 9 (value (figure m (stored z)))
+  power_kept : stored power ≡ neg_ℤ (pos p)
+  power_kept = ap stored power_is ∙ kept (neg_ℤ (pos p)) (omega (arith, mag_negative (pos p)))
+
+  pub quantity_answer : (to : Direction) (c : ℕ) {m : ℕ} {r : Figure} → m ≡ c → r ≡ rounded to 9 (value (figure m (stored power)))
       → r ≡ rounded to 9 (ratio (pos c) (10 ^ p))
   quantity_answer to c f g = g ∙ ap₂ (λ n y. rounded to 9 (value (figure n y))) f power_kept
       ∙ ap (rounded to 9) (value_is (figure c (neg_ℤ (pos p)))) ∙ rounded_same to 8 (≈_sym (over_ten c p))

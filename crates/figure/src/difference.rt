@@ -5,8 +5,8 @@ ghost use Rattle.figure.specs.Rounding.{value};
 ghost use Rattle.figure.specs.Operands.{Sized, Operand};
 ghost use Rattle.figure.specs.Internal.Steps.{rounded, Ordered, just_below};
 
-use crate::division::Part;
-use crate::{Direction, Figure, division, powers, whole};
+use crate::division::{Part, Width};
+use crate::{Direction, Figure, powers, whole};
 
 // The first less the second; zero where that is not positive.
 pub(crate) fn minus(to: Direction, a: Figure, b: Figure) -> Figure
@@ -22,10 +22,7 @@ pub(crate) fn minus(to: Direction, a: Figure, b: Figure) -> Figure
     if b.power <= a.power {
         return less(to, a, b);
     }
-    Figure {
-        digits: 0,
-        power: 0,
-    }
+    Figure::zero()
 }
 
 // The first less the second, whose power is not above the first's.
@@ -33,17 +30,14 @@ fn less(to: Direction, a: Figure, b: Figure) -> Figure
     requires { Ordered 9 a b }
     ensures { result ≡ rounded to 9 (value a -ᶠ value b) }
 {
-    let gap = powers::gap(a.power, b.power);
+    let gap = (a.power - b.power) as usize;
     // ten powers apart or more, the second is below a tenth of the first's last digit
     if 9 < gap {
         return lessened(to, a);
     }
     let n = a.digits * powers::ten_to(gap);
     if n <= b.digits {
-        return Figure {
-            digits: 0,
-            power: 0,
-        };
+        return Figure::zero();
     }
     whole::fitted(to, n - b.digits, b.power)
 }
@@ -58,11 +52,11 @@ fn lessened(to: Direction, a: Figure) -> Figure
             whole: 999_999_999,
             rest: true,
         };
-        return division::directed(to, 9, part, powers::difference(a.power, 1));
+        return part.directed(to, Width::Nine, a.power - 1);
     }
     let part = Part {
         whole: a.digits - 1,
         rest: true,
     };
-    division::directed(to, 9, part, a.power)
+    part.directed(to, Width::Nine, a.power)
 }

@@ -1,9 +1,28 @@
 // The one core of every rounding: a quotient, whether something was left over, and what the direction makes of it.
 ghost use Rattle.std.specs.Prelude.{◌≡◌, ◌*◌, ◌^◌, ◌≤◌, ◌<◌};
 ghost use Rattle.std.specs.Int.Signed.{mag};
-ghost use Rattle.figure.specs.Internal.Steps.{Width, part, shorter, carry, directed, trimmed};
+ghost use Rattle.figure.specs.Internal.Steps.{digits_of, part, shorter, carry, directed, trimmed};
 
-use crate::{Direction, Figure, powers};
+use crate::{Direction, Figure};
+
+// How many digits a rounding leaves: those of a figure, or those of a total.
+#[derive(Clone, Copy)]
+pub(crate) enum Width {
+    Nine,
+    Eighteen,
+}
+
+impl Width {
+    // The least number that has one digit more.
+    fn limit(self) -> u64
+        ensures { result ≡ 10 ^ digits_of self }
+    {
+        match self {
+            Width::Nine => 1_000_000_000,
+            Width::Eighteen => 1_000_000_000_000_000_000,
+        }
+    }
+}
 
 // A quotient of whole numbers, and whether something was left over.
 #[derive(Clone, Copy)]
@@ -12,65 +31,68 @@ pub(crate) struct Part {
     pub(crate) rest: bool,
 }
 
-// n over d.
-pub(crate) fn parted(n: u64, d: u64) -> Part
-    requires { 0 < d }
-    ensures { result ≡ part n d }
-{
-    let whole = n / d;
-    let rest = whole * d != n;
-    Part { whole, rest }
-}
+impl Part {
+    // n over d.
+    pub(crate) fn of(n: u64, d: u64) -> Part
+        requires { 0 < d }
+        ensures { result ≡ part n d }
+    {
+        let whole = n / d;
+        Part {
+            whole,
+            rest: whole * d != n,
+        }
+    }
 
-// A part divided once more, by d: what was left before counts too.
-pub(crate) fn shortened(p: Part, d: u64) -> Part
-    requires { 0 < d }
-    ensures { result ≡ shorter p d }
-{
-    let q = parted(p.whole, d);
-    if p.rest {
-        let whole = q.whole;
-        return Part { whole, rest: true };
+    // Divided once more, by d: what was left before counts too.
+    pub(crate) fn shortened(self, d: u64) -> Part
+        requires { 0 < d }
+        ensures { result ≡ shorter self d }
+    {
+        let q = Part::of(self.whole, d);
+        Part {
+            whole: q.whole,
+            rest: self.rest | q.rest,
+        }
     }
-    q
-}
 
-// The digits of p at a power, rounded up or down to the given width.
-pub(crate) fn directed(to: Direction, width: usize, p: Part, power: i32) -> Figure
-    requires { Width width × (p.whole < 10 ^ width) × (mag power ≤ 1000000) }
-    ensures { result ≡ directed to width p power }
-{
-    let whole = p.whole;
-    if to == Direction::Up && p.rest {
-        return carried(width, whole + 1, power);
+    // Its digits at a power, rounded up or down to the given width.
+    pub(crate) fn directed(self, to: Direction, width: Width, power: i32) -> Figure
+        requires { (self.whole < 10 ^ digits_of width) × (mag power ≤ 1000000) }
+        ensures { result ≡ directed to (digits_of width) self power }
+    {
+        if to == Direction::Up && self.rest {
+            return carried(width, self.whole + 1, power);
+        }
+        Figure {
+            digits: self.whole,
+            power,
+        }
     }
-    Figure {
-        digits: whole,
-        power,
-    }
-}
 
-// A part that may have one digit too many, at a power.
-pub(crate) fn trimmed(to: Direction, width: usize, part: Part, power: i32) -> Figure
-    requires { Width width × (part.whole < 10 * 10 ^ width) × (mag power ≤ 900000) }
-    ensures { result ≡ trimmed to width part power }
-{
-    if part.whole < powers::ten_to(width) {
-        return directed(to, width, part, power);
+    // The same where it may have one digit too many.
+    pub(crate) fn trimmed(self, to: Direction, width: Width, power: i32) -> Figure
+        requires { (self.whole < 10 * 10 ^ digits_of width) × (mag power ≤ 900000) }
+        ensures { result ≡ trimmed to (digits_of width) self power }
+    {
+        if self.whole < width.limit() {
+            return self.directed(to, width, power);
+        }
+        self.shortened(10).directed(to, width, power + 1)
     }
-    directed(to, width, shortened(part, 10), powers::sum(power, 1))
 }
 
 // Digits at a power, where they may be one too many.
-fn carried(width: usize, digits: u64, power: i32) -> Figure
-    requires { Width width × (mag power ≤ 1000000) }
-    ensures { result ≡ carry width digits power }
+fn carried(width: Width, digits: u64, power: i32) -> Figure
+    requires { mag power ≤ 1000000 }
+    ensures { result ≡ carry (digits_of width) digits power }
 {
-    let limit = powers::ten_to(width);
+    let limit = width.limit();
     if digits == limit {
-        let digits = limit / 10;
-        let power = powers::sum(power, 1);
-        return Figure { digits, power };
+        return Figure {
+            digits: limit / 10,
+            power: power + 1,
+        };
     }
     Figure { digits, power }
 }

@@ -8,7 +8,7 @@ ghost use Rattle.figure.specs.Operations as ops;
 ghost use Rattle.figure.specs.Losses as losses;
 ghost use Rattle.figure.specs.Losses.{told};
 
-use crate::{Direction, Figure, Rounded, powers, whole};
+use crate::{Direction, Figure, Rounded, whole};
 
 // The operations on figures, with what each makes of the marks. A `Figure` does what its own methods of these names do, and tells nothing; a `Rounded` tells
 // as well whether nothing was lost: of both operands, and by the operation itself.
@@ -172,7 +172,7 @@ impl Arithmetic for Rounded {
         ensures { result ≡ told (ops.of_quantity c p) (losses.quantity_keeps c p) }
     {
         let figure = Figure::of_quantity(c, p);
-        let kept = figure == whole::fitted(Direction::Down, whole::wide(c), powers::negative(p));
+        let kept = figure == whole::fitted(Direction::Down, u64::from(c), -(p as i32));
         Rounded { figure, kept }
     }
 

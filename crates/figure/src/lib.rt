@@ -22,10 +22,10 @@ mod powers;
 mod product;
 mod quotient;
 mod sum;
-mod telling;
 mod total;
 mod whole;
 
+use division::Width;
 pub use generic::Arithmetic;
 
 #[repr(C)]
@@ -93,8 +93,7 @@ impl Figure {
     pub fn of_whole_telling(n: u64) -> Rounded
         ensures { result ≡ told (ops.of_whole n) (losses.whole_keeps n) }
     {
-        let figure = whole::fitted(Direction::Down, n, 0);
-        telling::told(figure, whole::fitted(Direction::Up, n, 0))
+        Rounded::of_whole(n)
     }
 
     // The quantity c / 10^p of a word table, exactly.
@@ -102,17 +101,14 @@ impl Figure {
         requires { p ≤ 255 }
         ensures { result ≡ ops.of_quantity c p }
     {
-        whole::fitted(Direction::Up, whole::wide(c), powers::negative(p))
+        whole::fitted(Direction::Up, u64::from(c), -(p as i32))
     }
 
     pub fn of_quantity_telling(c: u32, p: u32) -> Rounded
         requires { p ≤ 255 }
         ensures { result ≡ told (ops.of_quantity c p) (losses.quantity_keeps c p) }
     {
-        let n = whole::wide(c);
-        let power = powers::negative(p);
-        let figure = whole::fitted(Direction::Up, n, power);
-        telling::told(figure, whole::fitted(Direction::Down, n, power))
+        Rounded::of_quantity(c, p)
     }
 
     // The product, rounded as `to` says.
@@ -127,7 +123,7 @@ impl Figure {
         requires { Operand 9 self × Operand 9 other }
         ensures { result ≡ ops.plus to self other }
     {
-        sum::plus(to, 9, self, other)
+        sum::plus(to, Width::Nine, self, other)
     }
 
     // The difference; zero where it is not positive.
@@ -150,7 +146,7 @@ impl Figure {
         requires { Operand 18 self × Operand 9 a }
         ensures { result ≡ ops.total to self a }
     {
-        sum::plus(to, 18, self, total::widened(a))
+        sum::plus(to, Width::Eighteen, self, total::widened(a))
     }
 
     // A total, to nine digits.
@@ -173,120 +169,112 @@ impl Figure {
         requires { Operand 9 self × Operand 9 other }
         ensures { result ≡ ops.times_up self other }
     {
-        product::times(Direction::Up, self, other)
+        self.times(other, Direction::Up)
     }
 
     pub fn times_up_telling(self, other: Figure) -> Rounded
         requires { Operand 9 self × Operand 9 other }
         ensures { result ≡ told (ops.times_up self other) (losses.times_keeps self other) }
     {
-        let figure = product::times(Direction::Up, self, other);
-        telling::told(figure, product::times(Direction::Down, self, other))
+        Rounded::exact(self).times(Rounded::exact(other), Direction::Up)
     }
 
     pub fn times_down(self, other: Figure) -> Figure
         requires { Operand 9 self × Operand 9 other }
         ensures { result ≡ ops.times_down self other }
     {
-        product::times(Direction::Down, self, other)
+        self.times(other, Direction::Down)
     }
 
     pub fn times_down_telling(self, other: Figure) -> Rounded
         requires { Operand 9 self × Operand 9 other }
         ensures { result ≡ told (ops.times_down self other) (losses.times_keeps self other) }
     {
-        let figure = product::times(Direction::Down, self, other);
-        telling::told(figure, product::times(Direction::Up, self, other))
+        Rounded::exact(self).times(Rounded::exact(other), Direction::Down)
     }
 
     pub fn plus_up(self, other: Figure) -> Figure
         requires { Operand 9 self × Operand 9 other }
         ensures { result ≡ ops.plus_up self other }
     {
-        sum::plus(Direction::Up, 9, self, other)
+        self.plus(other, Direction::Up)
     }
 
     pub fn plus_up_telling(self, other: Figure) -> Rounded
         requires { Operand 9 self × Operand 9 other }
         ensures { result ≡ told (ops.plus_up self other) (losses.plus_keeps self other) }
     {
-        let figure = sum::plus(Direction::Up, 9, self, other);
-        telling::told(figure, sum::plus(Direction::Down, 9, self, other))
+        Rounded::exact(self).plus(Rounded::exact(other), Direction::Up)
     }
 
     pub fn plus_down(self, other: Figure) -> Figure
         requires { Operand 9 self × Operand 9 other }
         ensures { result ≡ ops.plus_down self other }
     {
-        sum::plus(Direction::Down, 9, self, other)
+        self.plus(other, Direction::Down)
     }
 
     pub fn plus_down_telling(self, other: Figure) -> Rounded
         requires { Operand 9 self × Operand 9 other }
         ensures { result ≡ told (ops.plus_down self other) (losses.plus_keeps self other) }
     {
-        let figure = sum::plus(Direction::Down, 9, self, other);
-        telling::told(figure, sum::plus(Direction::Up, 9, self, other))
+        Rounded::exact(self).plus(Rounded::exact(other), Direction::Down)
     }
 
     pub fn minus_up(self, other: Figure) -> Figure
         requires { Operand 9 self × Operand 9 other }
         ensures { result ≡ ops.minus_up self other }
     {
-        difference::minus(Direction::Up, self, other)
+        self.minus(other, Direction::Up)
     }
 
     pub fn minus_up_telling(self, other: Figure) -> Rounded
         requires { Operand 9 self × Operand 9 other }
         ensures { result ≡ told (ops.minus_up self other) (losses.minus_keeps self other) }
     {
-        let figure = difference::minus(Direction::Up, self, other);
-        telling::told(figure, difference::minus(Direction::Down, self, other))
+        Rounded::exact(self).minus(Rounded::exact(other), Direction::Up)
     }
 
     pub fn minus_down(self, other: Figure) -> Figure
         requires { Operand 9 self × Operand 9 other }
         ensures { result ≡ ops.minus_down self other }
     {
-        difference::minus(Direction::Down, self, other)
+        self.minus(other, Direction::Down)
     }
 
     pub fn minus_down_telling(self, other: Figure) -> Rounded
         requires { Operand 9 self × Operand 9 other }
         ensures { result ≡ told (ops.minus_down self other) (losses.minus_keeps self other) }
     {
-        let figure = difference::minus(Direction::Down, self, other);
-        telling::told(figure, difference::minus(Direction::Up, self, other))
+        Rounded::exact(self).minus(Rounded::exact(other), Direction::Down)
     }
 
     pub fn divided_up(self, other: Figure) -> Figure
         requires { Operand 9 self × Operand 9 other × (0 < other.digits) }
         ensures { result ≡ ops.divided_up self other }
     {
-        quotient::divided(Direction::Up, self, other)
+        self.divided(other, Direction::Up)
     }
 
     pub fn divided_up_telling(self, other: Figure) -> Rounded
         requires { Operand 9 self × Operand 9 other × (0 < other.digits) }
         ensures { result ≡ told (ops.divided_up self other) (losses.divided_keeps self other) }
     {
-        let figure = quotient::divided(Direction::Up, self, other);
-        telling::told(figure, quotient::divided(Direction::Down, self, other))
+        Rounded::exact(self).divided(Rounded::exact(other), Direction::Up)
     }
 
     pub fn divided_down(self, other: Figure) -> Figure
         requires { Operand 9 self × Operand 9 other × (0 < other.digits) }
         ensures { result ≡ ops.divided_down self other }
     {
-        quotient::divided(Direction::Down, self, other)
+        self.divided(other, Direction::Down)
     }
 
     pub fn divided_down_telling(self, other: Figure) -> Rounded
         requires { Operand 9 self × Operand 9 other × (0 < other.digits) }
         ensures { result ≡ told (ops.divided_down self other) (losses.divided_keeps self other) }
     {
-        let figure = quotient::divided(Direction::Down, self, other);
-        telling::told(figure, quotient::divided(Direction::Up, self, other))
+        Rounded::exact(self).divided(Rounded::exact(other), Direction::Down)
     }
 
     // Times ten to the power p, exactly.
@@ -297,9 +285,10 @@ impl Figure {
         if self.digits == 0 {
             return self;
         }
-        let digits = self.digits;
-        let power = powers::sum(self.power, p);
-        Figure { digits, power }
+        Figure {
+            digits: self.digits,
+            power: self.power + p,
+        }
     }
 
     // The least whole number not below it, or 10^18 where that is less.
@@ -331,32 +320,28 @@ impl Figure {
         requires { Operand 18 self × Operand 9 a }
         ensures { result ≡ ops.total_up self a }
     {
-        sum::plus(Direction::Up, 18, self, total::widened(a))
+        self.total(a, Direction::Up)
     }
 
     pub fn total_up_telling(self, a: Figure) -> Rounded
         requires { Operand 18 self × Operand 9 a }
         ensures { result ≡ told (ops.total_up self a) (losses.total_keeps self a) }
     {
-        let wide = total::widened(a);
-        let figure = sum::plus(Direction::Up, 18, self, wide);
-        telling::told(figure, sum::plus(Direction::Down, 18, self, wide))
+        Rounded::exact(self).total(Rounded::exact(a), Direction::Up)
     }
 
     pub fn total_down(self, a: Figure) -> Figure
         requires { Operand 18 self × Operand 9 a }
         ensures { result ≡ ops.total_down self a }
     {
-        sum::plus(Direction::Down, 18, self, total::widened(a))
+        self.total(a, Direction::Down)
     }
 
     pub fn total_down_telling(self, a: Figure) -> Rounded
         requires { Operand 18 self × Operand 9 a }
         ensures { result ≡ told (ops.total_down self a) (losses.total_keeps self a) }
     {
-        let wide = total::widened(a);
-        let figure = sum::plus(Direction::Down, 18, self, wide);
-        telling::told(figure, sum::plus(Direction::Up, 18, self, wide))
+        Rounded::exact(self).total(Rounded::exact(a), Direction::Down)
     }
 
     // A total, to nine digits.
@@ -364,30 +349,28 @@ impl Figure {
         requires { Operand 18 self }
         ensures { result ≡ ops.to_nine_up self }
     {
-        total::to_nine(Direction::Up, self)
+        self.to_nine(Direction::Up)
     }
 
     pub fn to_nine_up_telling(self) -> Rounded
         requires { Operand 18 self }
         ensures { result ≡ told (ops.to_nine_up self) (losses.to_nine_keeps self) }
     {
-        let figure = total::to_nine(Direction::Up, self);
-        telling::told(figure, total::to_nine(Direction::Down, self))
+        Rounded::exact(self).to_nine(Direction::Up)
     }
 
     pub fn to_nine_down(self) -> Figure
         requires { Operand 18 self }
         ensures { result ≡ ops.to_nine_down self }
     {
-        total::to_nine(Direction::Down, self)
+        self.to_nine(Direction::Down)
     }
 
     pub fn to_nine_down_telling(self) -> Rounded
         requires { Operand 18 self }
         ensures { result ≡ told (ops.to_nine_down self) (losses.to_nine_keeps self) }
     {
-        let figure = total::to_nine(Direction::Down, self);
-        telling::told(figure, total::to_nine(Direction::Up, self))
+        Rounded::exact(self).to_nine(Direction::Down)
     }
 
     // The sum of two totals, to nine digits.
@@ -395,14 +378,13 @@ impl Figure {
         requires { Operand 18 self × Operand 18 other }
         ensures { result ≡ ops.sum_to_nine_up self other }
     {
-        total::sum_to_nine(Direction::Up, self, other)
+        self.sum_to_nine(other, Direction::Up)
     }
 
     pub fn sum_to_nine_up_telling(self, other: Figure) -> Rounded
         requires { Operand 18 self × Operand 18 other }
         ensures { result ≡ told (ops.sum_to_nine_up self other) (losses.sum_to_nine_keeps self other) }
     {
-        let figure = total::sum_to_nine(Direction::Up, self, other);
-        telling::told(figure, total::sum_to_nine(Direction::Down, self, other))
+        Rounded::exact(self).sum_to_nine(Rounded::exact(other), Direction::Up)
     }
 }

@@ -1,8 +1,8 @@
-// Powers of ten, and sums and differences of the powers of figures.
-ghost use Rattle.std.specs.Prelude.{◌≡◌, ◌^◌, ◌≤◌, ◌<◌, pos, neg_ℤ, ◌+ℤ◌, ◌-ℤ◌, ◌≤ℤ◌};
-ghost use Rattle.std.specs.Int.Signed.{mag};
+// Powers of ten.
+ghost use Rattle.std.specs.Prelude.{◌≡◌, ◌^◌, ◌<◌};
 
-// Ten to the power k. In arms: a constant table was written to the stack anew at each call, which took a good quarter of the walk's instructions.
+// Ten to the power k.
+// kept: in arms, for speed: a constant table was written to the stack anew at each call, which took a good quarter of the walk's instructions.
 pub(crate) fn ten_to(k: usize) -> u64
     requires { k < 20 }
     ensures { result ≡ 10 ^ k }
@@ -29,44 +29,4 @@ pub(crate) fn ten_to(k: usize) -> u64
         18 => 1_000_000_000_000_000_000,
         _ => 10_000_000_000_000_000_000,
     }
-}
-
-// The sum of two powers.
-pub(crate) fn sum(p: i32, q: i32) -> i32
-    requires { (mag p ≤ 1000000000) × (mag q ≤ 1000000000) }
-    ensures { result ≡ p +ℤ q }
-{
-    p + q
-}
-
-// The difference of two powers.
-pub(crate) fn difference(p: i32, q: i32) -> i32
-    requires { (mag p ≤ 1000000000) × (mag q ≤ 1000000000) }
-    ensures { result ≡ p -ℤ q }
-{
-    p - q
-}
-
-// How far the power p stands above q.
-pub(crate) fn gap(p: i32, q: i32) -> usize
-    requires { (mag p ≤ 1000000000) × (mag q ≤ 1000000000) × (q ≤ℤ p) }
-    ensures { pos result ≡ p -ℤ q }
-{
-    (p - q) as usize
-}
-
-// A small number of digits as a power.
-pub(crate) fn positive(k: usize) -> i32
-    requires { k ≤ 1000 }
-    ensures { result ≡ pos k }
-{
-    k as i32
-}
-
-// The same, below zero.
-pub(crate) fn negative(k: u32) -> i32
-    requires { k ≤ 1000 }
-    ensures { result ≡ neg_ℤ (pos k) }
-{
-    0 - (k as i32)
 }

@@ -6,8 +6,8 @@ ghost use Rattle.figure.specs.Operands.{Operand};
 ghost use Rattle.figure.specs.Products.{product_divisor, eighteenth};
 ghost use Rattle.figure.specs.Internal.Steps.{rounded, scaling};
 
-use crate::division::Part;
-use crate::{Direction, Figure, division, powers};
+use crate::division::{Part, Width};
+use crate::{Direction, Figure};
 
 // The first nine digits of a product, and how many more it has.
 #[derive(Clone, Copy)]
@@ -35,8 +35,8 @@ fn divisor(p: u64) -> u64
 fn nine_digits(p: u64) -> Scaled
     ensures { result ≡ scaling p }
 {
-    let part = division::parted(p, divisor(p));
-    let dropped = powers::positive(8 + extra_digit(p));
+    let part = Part::of(p, divisor(p));
+    let dropped = (8 + extra_digit(p)) as i32;
     Scaled { part, dropped }
 }
 
@@ -47,13 +47,9 @@ pub(crate) fn times(to: Direction, a: Figure, b: Figure) -> Figure
 {
     let p = a.digits * b.digits;
     if p == 0 {
-        return Figure {
-            digits: 0,
-            power: 0,
-        };
+        return Figure::zero();
     }
     let s = nine_digits(p);
-    let part = s.part;
-    let power = powers::sum(powers::sum(a.power, b.power), s.dropped);
-    division::directed(to, 9, part, power)
+    s.part
+        .directed(to, Width::Nine, a.power + b.power + s.dropped)
 }

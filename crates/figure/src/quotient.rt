@@ -5,7 +5,8 @@ ghost use Rattle.figure.specs.Rounding.{value};
 ghost use Rattle.figure.specs.Operands.{Operand};
 ghost use Rattle.figure.specs.Internal.Steps.{rounded, NineDigits, Padding};
 
-use crate::{Direction, Figure, division, powers};
+use crate::division::{Part, Width};
+use crate::{Direction, Figure, powers};
 
 // How many zeros the first number needs so that its quotient by the second has nine digits, for two numbers of nine digits.
 fn zeros_needed(a: u64, b: u64) -> usize
@@ -24,10 +25,6 @@ pub(crate) fn divided(to: Direction, a: Figure, b: Figure) -> Figure
         return a;
     }
     let zeros = zeros_needed(a.digits, b.digits);
-    let part = division::parted(a.digits * powers::ten_to(zeros), b.digits);
-    let power = powers::difference(
-        powers::difference(a.power, b.power),
-        powers::positive(zeros),
-    );
-    division::directed(to, 9, part, power)
+    let part = Part::of(a.digits * powers::ten_to(zeros), b.digits);
+    part.directed(to, Width::Nine, a.power - b.power - zeros as i32)
 }

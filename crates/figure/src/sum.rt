@@ -3,15 +3,15 @@ ghost use Rattle.std.specs.Prelude.{◌≡◌, ◌^◌, ◌<◌};
 ghost use Rattle.fraction.specs.Fraction.{◌+ᶠ◌};
 ghost use Rattle.figure.specs.Rounding.{value};
 ghost use Rattle.figure.specs.Operands.{Sized};
-ghost use Rattle.figure.specs.Internal.Steps.{rounded, Width, Ordered, Alignable, part, aligned_sum};
+ghost use Rattle.figure.specs.Internal.Steps.{rounded, digits_of, Ordered, Alignable, part, aligned_sum};
 
-use crate::division::Part;
-use crate::{Direction, Figure, division, powers};
+use crate::division::{Part, Width};
+use crate::{Direction, Figure, powers};
 
 // The sum, rounded up or down.
-pub(crate) fn plus(to: Direction, width: usize, a: Figure, b: Figure) -> Figure
-    requires { Width width × Sized width 200000 a × Sized width 200000 b }
-    ensures { result ≡ rounded to width (value a +ᶠ value b) }
+pub(crate) fn plus(to: Direction, width: Width, a: Figure, b: Figure) -> Figure
+    requires { Sized (digits_of width) 200000 a × Sized (digits_of width) 200000 b }
+    ensures { result ≡ rounded to (digits_of width) (value a +ᶠ value b) }
 {
     if a.digits == 0 {
         return b;
@@ -27,13 +27,11 @@ pub(crate) fn plus(to: Direction, width: usize, a: Figure, b: Figure) -> Figure
 }
 
 // The sum of two figures that are not zero, the power of the first not below that of the second.
-fn joined(to: Direction, width: usize, large: Figure, small: Figure) -> Figure
-    requires { Width width × Ordered width large small }
-    ensures { result ≡ rounded to width (value large +ᶠ value small) }
+fn joined(to: Direction, width: Width, large: Figure, small: Figure) -> Figure
+    requires { Ordered (digits_of width) large small }
+    ensures { result ≡ rounded to (digits_of width) (value large +ᶠ value small) }
 {
-    let part = aligned(large, small);
-    let power = large.power;
-    division::trimmed(to, width, part, power)
+    aligned(large, small).trimmed(to, width, large.power)
 }
 
 // The first, with what of the second reaches the first's last digit.
@@ -41,11 +39,12 @@ pub(crate) fn aligned(large: Figure, small: Figure) -> Part
     requires { Alignable large small }
     ensures { result ≡ aligned_sum large small }
 {
-    let gap = powers::gap(large.power, small.power);
+    let gap = (large.power - small.power) as usize;
     let part = lowered(small.digits, gap);
-    let whole = large.digits + part.whole;
-    let rest = part.rest;
-    Part { whole, rest }
+    Part {
+        whole: large.digits + part.whole,
+        rest: part.rest,
+    }
 }
 
 // n over 10^k, for every k.
@@ -54,7 +53,7 @@ fn lowered(n: u64, k: usize) -> Part
     ensures { result ≡ part n (10 ^ k) }
 {
     if k < 19 {
-        division::parted(n, powers::ten_to(k))
+        Part::of(n, powers::ten_to(k))
     } else {
         Part {
             whole: 0,

@@ -5,7 +5,8 @@ ghost use Rattle.figure.specs.Rounding.{value};
 ghost use Rattle.figure.specs.Operands.{Operand};
 ghost use Rattle.figure.specs.Internal.Steps.{rounded, Ordered, widening};
 
-use crate::{Direction, Figure, division, powers, sum};
+use crate::division::{Part, Width};
+use crate::{Direction, Figure, sum};
 
 // A figure of nine digits, with eighteen.
 pub(crate) fn widened(a: Figure) -> Figure
@@ -15,9 +16,10 @@ pub(crate) fn widened(a: Figure) -> Figure
     if a.digits == 0 {
         return a;
     }
-    let digits = a.digits * 1_000_000_000;
-    let power = powers::difference(a.power, 9);
-    Figure { digits, power }
+    Figure {
+        digits: a.digits * 1_000_000_000,
+        power: a.power - 9,
+    }
 }
 
 // A total, rounded up or down to nine digits.
@@ -28,8 +30,7 @@ pub(crate) fn to_nine(to: Direction, t: Figure) -> Figure
     if t.digits == 0 {
         return t;
     }
-    let part = division::parted(t.digits, 1_000_000_000);
-    division::directed(to, 9, part, powers::sum(t.power, 9))
+    Part::of(t.digits, 1_000_000_000).directed(to, Width::Nine, t.power + 9)
 }
 
 // The sum of two totals, rounded once, to nine digits.
@@ -55,6 +56,6 @@ fn joined(to: Direction, large: Figure, small: Figure) -> Figure
     requires { Ordered 18 large small }
     ensures { result ≡ rounded to 9 (value large +ᶠ value small) }
 {
-    let part = division::shortened(sum::aligned(large, small), 1_000_000_000);
-    division::trimmed(to, 9, part, powers::sum(large.power, 9))
+    let part = sum::aligned(large, small).shortened(1_000_000_000);
+    part.trimmed(to, Width::Nine, large.power + 9)
 }

@@ -4,13 +4,8 @@ ghost use Rattle.std.specs.Int.Signed.{mag};
 ghost use Rattle.figure.specs.Rounding.{figure, value};
 ghost use Rattle.figure.specs.Internal.Steps.{rounded, Count};
 
-use crate::{Direction, Figure, division, powers};
-
-pub(crate) fn wide(c: u32) -> u64
-    ensures { result ≡ c }
-{
-    c as u64
-}
+use crate::division::{Part, Width};
+use crate::{Direction, Figure, powers};
 
 // The number of digits of n, where it has at most ten.
 fn few_digits(n: u64) -> usize
@@ -57,19 +52,16 @@ pub(crate) fn fitted(to: Direction, n: u64, power: i32) -> Figure
     ensures { result ≡ rounded to 9 (value (figure n power)) }
 {
     if n == 0 {
-        return Figure {
-            digits: 0,
-            power: 0,
-        };
+        return Figure::zero();
     }
     let count = digit_count(n);
     if count <= 9 {
         let k = 9 - count;
-        let digits = n * powers::ten_to(k);
-        let power = powers::difference(power, powers::positive(k));
-        return Figure { digits, power };
+        return Figure {
+            digits: n * powers::ten_to(k),
+            power: power - k as i32,
+        };
     }
     let k = count - 9;
-    let part = division::parted(n, powers::ten_to(k));
-    division::directed(to, 9, part, powers::sum(power, powers::positive(k)))
+    Part::of(n, powers::ten_to(k)).directed(to, Width::Nine, power + k as i32)
 }

@@ -7,6 +7,8 @@ use Rattle.figure.specs.declared.Figure.{Figure}
 use Rattle.figure.specs.declared.Direction.{Direction}
 use Rattle.figure.specs.declared.Direction.TheVariants.{Down, Up}
 use Rattle.figure.specs.declared.division.Part.{Part}
+use Rattle.figure.specs.declared.division.Width.{Width}
+use Rattle.figure.specs.declared.division.Width.TheVariants.{Nine, Eighteen}
 use Rattle.figure.specs.declared.product.Scaled.{Scaled}
 use Rattle.figure.specs.Rounding.{figure, none, up, down}
 use Rattle.figure.specs.Operands.{Sized}
@@ -17,8 +19,13 @@ abbrev pub rounded : Direction → ℕ → Fraction → Figure
 rounded Up K x = up K x
 rounded Down K x = down K x
 
+-- the digits that a rounding leaves
+abbrev pub digits_of : Width → ℕ
+digits_of Nine = 9
+digits_of Eighteen = 18
+
 -- a number of digits that the code works with
-pub record Width (K : ℕ) : Type 0 where
+pub record Digits (K : ℕ) : Type 0 where
   pub some : 0 < K
   pub most : K ≤ 18
 

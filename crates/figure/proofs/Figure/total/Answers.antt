@@ -1,12 +1,12 @@
 -- `Figure::total` meets its contract. Assumes nothing.
 use mathlib.Core.Path.{sym, ◌∙◌}
 use Rattle.figure.proofs.Figures.{sized_more}
-use Rattle.figure.proofs.Totals.{eighteen, widening_sized, total_answer}
+use Rattle.figure.proofs.Totals.{widening_sized, total_answer}
 use Rattle.figure.proofs.Directions.{total_rounded}
 use Rattle.figure.proofs.Figure.total.Goals as goal
 
 pub plus-requires : goal.plus-requires
-plus-requires c = (eighteen, sized_more c.requires.0, rw c.widened.ensures (widening_sized c.requires.1))
+plus-requires c = (sized_more c.requires.0, rw c.widened.ensures (widening_sized c.requires.1))
 
 pub returns : goal.returns
 returns c =

@@ -1,6 +1,5 @@
 -- `difference::minus` meets its contract. Assumes nothing.
-use Rattle.figure.proofs.Sums.{ordered}
-use Rattle.figure.proofs.Figures.{sized_more}
+use mathlib.Core.Path.{◌∙◌}
 use Rattle.figure.proofs.Differences.{nothing_taken, taken_from_nothing, higher_taken}
 use Rattle.figure.proofs.difference.minus.Goals as goal
 
@@ -10,8 +9,5 @@ returns-then-b-eq0 c = nothing_taken c.args.to c.args.a c.args.b c.if-b-eq0.true
 pub returns-then-a-eq0 : goal.returns-then-a-eq0
 returns-then-a-eq0 c = taken_from_nothing c.args.to c.args.a c.args.b c.if-a-eq0.true c.requires.0.is_figure
 
-pub less-requires : goal.less-requires
-less-requires c = ordered (sized_more c.requires.0) (sized_more c.requires.1) c.if-a-eq0.false c.if-b-eq0.false c.if-b-a.true
-
 pub returns : goal.returns
-returns c = higher_taken c.args.to c.args.a c.args.b c.requires.0 c.requires.1 c.if-b-eq0.false c.if-b-a.false
+returns c = c.zero.ensures ∙ higher_taken c.args.to c.args.a c.args.b c.requires.0 c.requires.1 c.if-b-eq0.false c.if-b-a.false
