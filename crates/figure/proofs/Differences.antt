@@ -2,14 +2,12 @@
 use mathlib.Core.Path.{◌≡◌, refl, sym, ◌∙◌, ap, ap₂}
 use mathlib.Core.Bool.{Bool, true, false}
 use Prim.Native.Nat.{ℕ, zero, suc, ◌+◌, ◌-◌, ◌*◌, ◌^◌, ◌≤◌, ◌<◌}
-use native.Mathlib.Nat.{lt_of_lt_of_le, mul-le-mul, mul-le-mul_right, zero-lt-suc, lt_irrefl, le_of_lt, pow-le-pow_right, pow-suc}
+use native.Mathlib.Nat.{lt_of_lt_of_le, mul-le-mul_right, zero-lt-suc, lt_irrefl, le_of_lt, pow-le-pow_right, pow-suc}
 use native.Mathlib.Numerals.{add-one}
 use native.Mathlib.Omega.{arith}
 use lib.Dec.{eqb, lit≤}
 use lib.IntN.{ℤ, pos, ◌+ℤ◌, ◌-ℤ◌, +ℤ_assoc, +ℤ_comm, -ℤ-+ℤ_cancel, +ℤ-neg_ℤ_cancel}
-use lib.Signed.{mag, le_z}
-use mir.Syntax.{w64}
-use mir.Val.{Fits}
+use lib.Signed.{le_z}
 use borrow.Author.Tests.{eq-eqb, ne_eqb, eqb-true, eqb-false}
 use Rattle.fraction.specs.Fraction.{◌-ᶠ◌}
 use Rattle.fraction.proofs.Ratio.{◌≼◌, ◌≈◌, ofℕ, ◌⊗◌, ◌⊖◌, ≼_trans, ≈_refl, ≈_sym, ≈_trans, ≈_le, ⊖_cong, ⊖_nothing, ⊖_zero, ⊖_multiples}
@@ -70,13 +68,6 @@ module _ {a b : Figure} {g : ℕ} (o : Ordered 9 a b) (g-is : pos g ≡ a.power 
 
   -- near: the difference is a whole number of the second's units
   module _ {t : ℕ} (t-is : t ≡ 10 ^ g) where
-    pub scaled_fits : g ≤ 9 → Fits w64 (a.digits * t)
-    scaled_fits h = rw t-is (omega (
-      arith,
-      mul-le-mul {n₁ = a.digits} {m₁ = 10 ^ g} {n₂ = 10 ^ 9} {m₂ = 10 ^ 9}
-          (le_of_lt (digits_high o.first.is_figure)) (pow-le-pow_right (zero-lt-suc 9) h),
-    ))
-
     pub near_nothing : (to : Direction) → a.digits * t ≤ b.digits → none ≡ rounded to 9 (value a -ᶠ value b)
     near_nothing to h = no_difference to a b (≼_trans (≈_le first_is) (multiple-≼ b.power (rw t-is at h)))
 
@@ -169,9 +160,6 @@ module _ (to : Direction) {a : Figure} (s : Sized 9 200000 a) where
   one_lower : {u : ℤ} → u ≡ stored a.power -ℤ pos 1 → stored u ≡ a.power -ℤ pos 1
   one_lower e = ap stored (read_difference a.power (pos 1) (room tt s.near) (lit≤ tt) e)
       ∙ kept (a.power -ℤ pos 1) (omega (arith, mag_difference a.power (pos 1), s.near))
-
-  pub lower_near : {u : ℤ} → u ≡ stored a.power -ℤ pos 1 → mag (stored u) ≤ 1000000
-  lower_near e = rw (one_lower e) (omega (arith, mag_difference a.power (pos 1), s.near))
 
   pub below_least : {u : ℤ} {r : Figure} → a.digits ≡ 10 ^ 8 → u ≡ stored a.power -ℤ pos 1 → r ≡ directed to 9 (parts 999999999 true) (stored u)
       → r ≡ just_below to a

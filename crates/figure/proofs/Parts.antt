@@ -81,16 +81,6 @@ shorter_part n t d ht hd =
     below : (s r : ℕ) → s < d → r < t → s * t + r < t * d
     below s r h k = omega (arith, mul-le-mul_right t h)
 
-module _ (p : Part) (d : ℕ) {q : Part} (e : q ≡ part p.whole d) where
-  left_before : (b : Bool) → p.rest ≡ b → shorter p d ≡ parts (p.whole / d) (b || not (eqb (p.whole / d * d) p.whole))
-  left_before b s = unfold shorter part in ap (λ c. parts (p.whole / d) (c || not (eqb (p.whole / d * d) p.whole))) s
-
-  pub shorter_rest : p.rest ≡ true → parts q.whole true ≡ shorter p d
-  shorter_rest s = rw e (unfold part in sym (left_before true s))
-
-  pub shorter_clean : p.rest ≡ false → q ≡ shorter p d
-  shorter_clean s = e ∙ (unfold part in sym (left_before false s))
-
 -- ---- digits that may be one too many
 
 pub digits_fit : {K d : ℕ} → Digits K → d < 10 ^ K → d < 10 ^ 18

@@ -9,8 +9,8 @@ use native.Mathlib.Omega.{arith, patom}
 use lib.Dec.{ltb, leb, lit≤}
 use lib.IntN.{ℤ, pos, ◌+ℤ◌}
 use lib.Signed.{mag}
-use mir.Syntax.{w32, w64}
-use mir.Val.{SFits, Fits, bool_byte}
+use mir.Syntax.{w32}
+use mir.Val.{SFits, bool_byte}
 use borrow.Author.Tests.{ltb-true, ltb-false, lt-ltb, le-ltb, le-leb, lt-leb}
 use Rattle.fraction.specs.Fraction.{◌*ᶠ◌}
 use Rattle.fraction.proofs.Ratio.{◌≈◌, ofℕ, ◌⊗◌, ≈_sym, ≈_trans, ⊗_cong, ofℕ-⊗}
@@ -30,7 +30,7 @@ use Rattle.figure.proofs.Scale.{pow_pos, exponent-<}
 use Rattle.figure.proofs.Digits.{digits_above, digits_below}
 use Rattle.figure.proofs.Value.{val}
 use Rattle.figure.proofs.Operations.{value_times}
-use Rattle.figure.proofs.Stored.{stored, kept, kept_near, mag_sum, read_sum, both_fit, sum_near as sum_small}
+use Rattle.figure.proofs.Stored.{stored, kept, mag_sum, read_sum, both_fit, sum_near as sum_small}
 use Rattle.figure.proofs.Parts.{part_below}
 use Rattle.figure.proofs.PartsRounded.{rounded_part}
 use Rattle.figure.proofs.Figures.{digits_high, digits_low, room, rounded_zero, over_tens}
@@ -134,9 +134,6 @@ module _ {a b : Figure} (fa : IsFigure 9 a) (fb : IsFigure 9 b) where
 -- ---- as the code has it
 
 module _ {a b : Figure} (oa : Operand 9 a) (ob : Operand 9 b) where
-  pub product_fits : Fits w64 (a.digits * b.digits)
-  product_fits = omega (arith, product_small oa.is_figure ob.is_figure)
-
   pub product_zero : (to : Direction) → a.digits * b.digits ≡ 0 → none ≡ rounded to 9 (value a *ᶠ value b)
   product_zero to z = sym (ap (rounded to 9) (value_times a b) ∙ rounded_zero to 9 _ nothing)
     where
@@ -157,9 +154,6 @@ module _ {a b : Figure} (oa : Operand 9 a) (ob : Operand 9 b) where
 
     dropped_near : mag z.dropped ≤ 9
     dropped_near = rw nine.dropped_is nine.few
-
-    pub product_powers : (mag (stored s) ≤ 1000000000) × (mag (stored z.dropped) ≤ 1000000000)
-    product_powers = (kept_near s (omega (arith, sum_near)), kept_near z.dropped (omega (arith, dropped_near)))
 
     pub product_fits_power : SFits w32 (stored s +ℤ stored z.dropped)
     product_fits_power = both_fit ◌+ℤ◌ sum_small s z.dropped (omega (arith, sum_near)) (omega (arith, dropped_near))

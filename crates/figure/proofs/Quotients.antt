@@ -2,13 +2,10 @@
 use mathlib.Core.Path.{◌≡◌, sym, ◌∙◌, ap, ap₂}
 use mathlib.Core.List.{[], ◌∷◌}
 use Prim.Native.Nat.{ℕ, ◌*◌, ◌^◌, ◌≤◌, ◌<◌}
-use native.Mathlib.Nat.{lt_irrefl}
 use native.Mathlib.Omega.{arith, patom, plit}
 use lib.Dec.{lit≤}
 use lib.IntN.{ℤ, pos, ◌-ℤ◌, -ℤ-+ℤ_cancel}
 use lib.Signed.{mag}
-use mir.Syntax.{w64}
-use mir.Val.{Fits}
 use Rattle.fraction.specs.Fraction.{◌/ᶠ◌}
 use Rattle.fraction.proofs.Ratio.{Ratio, ◌≈◌, ofℕ, ◌⊗◌, ≈_refl, ≈_sym, ≈_trans, ⊗_cong, ofℕ-⊗}
 use Rattle.fraction.proofs.Certificate.{◌*'◌, same_value}
@@ -19,14 +16,14 @@ use Rattle.figure.specs.declared.Direction.{Direction}
 use Rattle.figure.specs.declared.division.Part.{Part}
 use Rattle.figure.specs.Rounding.{value}
 use Rattle.figure.specs.Operands.{Operand}
-use Rattle.figure.specs.Internal.Steps.{rounded, part, directed, NineDigits, Padding}
+use Rattle.figure.specs.Internal.Steps.{rounded, part, directed, Padding}
 use Rattle.figure.proofs.Scale.{multiple_pos}
 use Rattle.figure.proofs.Value.{val}
 use Rattle.figure.proofs.Operations.{value_divided}
-use Rattle.figure.proofs.Stored.{stored, kept, kept_near, mag_difference, read_difference}
+use Rattle.figure.proofs.Stored.{stored, kept, mag_difference, read_difference}
 use Rattle.figure.proofs.Parts.{part_below}
 use Rattle.figure.proofs.PartsRounded.{Over, rounded_part}
-use Rattle.figure.proofs.Figures.{digits_high, digits_low, zero_is_none, room, rounded_zero}
+use Rattle.figure.proofs.Figures.{zero_is_none, room, rounded_zero}
 
 -- ---- the exact quotient
 
@@ -70,17 +67,8 @@ module _ {a b : Figure} (oa : Operand 9 a) (ob : Operand 9 b) (hb : 0 < b.digits
       nothing : (val a ⊗ inv (val b)).num ≡ 0
       nothing = unfold ◌⊗◌ ofℕ in omega (arith, ap (λ n. n * ((ten_to a.power).num * (inv (val b)).num)) z)
 
-  pub both_nine : (a.digits ≡ 0 → ⊥) → NineDigits a.digits × NineDigits b.digits
-  both_nine n = (
-    record { least = digits_low oa.is_figure n; most = digits_high oa.is_figure },
-    record { least = digits_low ob.is_figure (λ z. lt_irrefl 0 (rw z at hb)); most = digits_high ob.is_figure },
-  )
-
   -- the digits and the powers on the way, as the code has them
   module _ {k t : ℕ} (pad : Padding a.digits b.digits k) (t-is : t ≡ 10 ^ k) where
-    pub padded_fits : Fits w64 (a.digits * t)
-    padded_fits = rw t-is (omega (arith, pad.high, digits_high ob.is_figure))
-
     pub quotient_below : {q : Part} → q ≡ part (a.digits * t) b.digits → q.whole < 10 ^ 9
     quotient_below e = part_below (a.digits * t) b.digits (10 ^ 9) e hb (rw t-is pad.high)
 
@@ -93,9 +81,6 @@ module _ {a b : Figure} (oa : Operand 9 a) (ob : Operand 9 b) (hb : 0 < b.digits
 
       zeros_near : mag z ≤ 9
       zeros_near = rw z-is pad.few
-
-      pub quotient_powers : (mag (stored s) ≤ 1000000000) × (mag (stored z) ≤ 1000000000)
-      quotient_powers = (kept_near s (omega (arith, difference_near)), kept_near z (omega (arith, zeros_near)))
 
       module _ {u : ℤ} (u-is : u ≡ stored s -ℤ stored z) where
         power_is : u ≡ s -ℤ z

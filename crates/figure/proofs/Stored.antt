@@ -49,9 +49,6 @@ small z h = sfits_of (le_trans (suc-le-suc h) (lit≤ tt))
 pub kept : (z : ℤ) → mag z ≤ 2000000002 → stored z ≡ z
 kept z h = to_z-of_z (small z h)
 
-pub kept_near : (z : ℤ) → mag z ≤ 1000000000 → mag (stored z) ≤ 1000000000
-kept_near z h = rw (kept z (omega arith)) h
-
 -- an operation whose result is not much larger than its operands
 abbrev pub Near : (ℤ → ℤ → ℤ) → Type 0
 Near op = (p q : ℤ) → mag (op p q) ≤ mag p + mag q + 2
@@ -98,10 +95,6 @@ module _ {p q : ℤ} (h : q ≤ℤ p) where
   gap_pos = pos-nat_abs (p -ℤ q) (difference_nonneg p q h.le)
 
   module _ (hp : mag p ≤ 1000000000) (hq : mag q ≤ 1000000000) where
-    -- what the code asks for where it takes the difference, and what it gets
-    pub gap_asks : (mag (stored p) ≤ 1000000000) × (mag (stored q) ≤ 1000000000) × (stored q ≤ℤ stored p)
-    gap_asks = rw (kept p (omega arith), kept q (omega arith)) (hp, hq, h)
-
     difference_kept : stored (stored p -ℤ stored q) ≡ p -ℤ q
     difference_kept = both_kept ◌-ℤ◌ mag_difference p q hp hq
 
@@ -125,6 +118,3 @@ module _ (p q : ℤ) (hp : mag p ≤ 1000000000) (hq : mag q ≤ 1000000000) whe
 
   pub in_order : le_z (stored q) (stored p) ≡ true → q ≤ℤ p
   in_order h = record { le = rw (sym read_test ∙ h) tt }
-
-  pub out_of_order : le_z (stored q) (stored p) ≡ false → p ≤ℤ q
-  out_of_order h = record { le = turned p q (sym read_test ∙ h) }

@@ -2,13 +2,12 @@
 -- last digit and the mark that more was left, settles it. Assumes nothing.
 use mathlib.Core.Path.{◌≡◌, refl, sym, ◌∙◌, ap, ap₂}
 use mathlib.Core.List.{[], ◌∷◌}
-use mathlib.Core.Bool.{true, false}
 use Prim.Native.Nat.{ℕ, zero, suc, ◌+◌, ◌*◌, ◌/◌, ◌%◌, ◌^◌, ◌≤◌, ◌<◌}
-use native.Mathlib.Nat.{lt_of_lt_of_le, mul-le-mul_right, mul-le-mul_left, zero-lt-suc, lt_irrefl, div-le_self, mod-lt, div-add-mod', pow-le-pow_right, pow-succ', pos_of_ne-zero}
+use native.Mathlib.Nat.{lt_of_lt_of_le, mul-le-mul_right, mul-le-mul_left, zero-lt-suc, lt_irrefl, div-le_self, mod-lt, div-add-mod', pow-le-pow_right, pow-succ'}
 use native.Mathlib.Omega.{arith, P, patom}
 use lib.Dec.{ltb}
 use lib.IntN.{ℤ, pos, nat_abs, ◌+ℤ◌, ◌-ℤ◌, -ℤ-+ℤ_cancel, +ℤ_comm}
-use lib.Signed.{le_z, ◌≤ℤ◌}
+use lib.Signed.{◌≤ℤ◌}
 use mir.Syntax.{w64}
 use mir.Val.{Fits}
 use borrow.Author.Tests.{lt-ltb}
@@ -21,15 +20,14 @@ use Rattle.figure.specs.declared.Figure.{Figure}
 use Rattle.figure.specs.declared.Direction.{Direction}
 use Rattle.figure.specs.declared.division.Part.{Part}
 use Rattle.figure.specs.Rounding.{value, IsFigure}
-use Rattle.figure.specs.Operands.{Sized}
 use Rattle.figure.specs.Internal.Steps.{rounded, Digits, Ordered, Alignable, part, trimmed, gap_of, aligned_sum}
 use Rattle.figure.proofs.Scale.{pow_pos}
 use Rattle.figure.proofs.Value.{val, value_is}
 use Rattle.figure.proofs.Operations.{value_plus}
-use Rattle.figure.proofs.Stored.{stored, kept, gap_pos, in_order, out_of_order}
+use Rattle.figure.proofs.Stored.{stored, kept, gap_pos}
 use Rattle.figure.proofs.Parts.{parts, some, some_left, at_part, part_split, digits_fit}
 use Rattle.figure.proofs.PartsRounded.{Over, rounded_trimmed}
-use Rattle.figure.proofs.Figures.{digits_high, digits_low, room, rounded_own, rounded_same}
+use Rattle.figure.proofs.Figures.{digits_high, digits_low, rounded_own, rounded_same}
 
 -- ---- a number over a high power of ten: nothing of it is left but that there was something
 
@@ -44,25 +42,6 @@ far_part n k h l = sym (at_part n (10 ^ k) 0 n (omega arith) below ∙ ap (parts
     below = lt_of_lt_of_le h (pow-le-pow_right (zero-lt-suc 9) {i = 18} {j = k} (omega arith))
 
 -- ---- two figures in order
-
-module _ {K : ℕ} {a b : Figure} (sa : Sized K 200000 a) (sb : Sized K 200000 b) (na : a.digits ≡ 0 → ⊥) (nb : b.digits ≡ 0 → ⊥) where
-  pub ordered : le_z (stored b.power) (stored a.power) ≡ true → Ordered K a b
-  ordered h = record {
-    first = sa;
-    second = sb;
-    first_some = pos_of_ne-zero na;
-    second_some = pos_of_ne-zero nb;
-    order = in_order a.power b.power (room tt sa.near) (room tt sb.near) h;
-  }
-
-  pub ordered_back : le_z (stored b.power) (stored a.power) ≡ false → Ordered K b a
-  ordered_back h = record {
-    first = sb;
-    second = sa;
-    first_some = pos_of_ne-zero nb;
-    second_some = pos_of_ne-zero na;
-    order = out_of_order a.power b.power (room tt sa.near) (room tt sb.near) h;
-  }
 
 pub alignable : {K : ℕ} {a b : Figure} → Digits K → Ordered K a b → Alignable a b
 alignable k o = record {

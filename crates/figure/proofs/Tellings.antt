@@ -9,11 +9,9 @@ use Rattle.fraction.specs.Fraction.{Fraction}
 use Rattle.figure.specs.declared.Figure.{Figure}
 use Rattle.figure.specs.declared.Direction.{Direction}
 use Rattle.figure.specs.declared.Direction.TheVariants.{Down, Up}
-use Rattle.figure.specs.declared.Rounded.{Rounded}
-use Rattle.figure.specs.Losses.{keeps, told}
+use Rattle.figure.specs.Losses.{keeps}
 use Rattle.figure.specs.Internal.Steps.{rounded}
 use Rattle.figure.specs.Internal.Directions.{opposite}
-use Rattle.figure.specs.Internal.Telling.{Told}
 use Rattle.figure.proofs.Losses.{both_ways, both_agree, agree_keeps}
 
 -- whether two figures are the same, as the code finds it
@@ -31,14 +29,6 @@ module _ (w : ℕ) (x : Fraction) where
   agreed : (to : Direction) → rounded to (suc w) x ≡ rounded (opposite to) (suc w) x → keeps (suc w) x ≡ true
   agreed Up e = agree_keeps w x e
   agreed Down e = agree_keeps w x (sym e)
-
-  pub told_by : (to : Direction) {f g : Figure} {r : Rounded} → f ≡ rounded to (suc w) x → g ≡ rounded (opposite to) (suc w) x → Told f g r
-      → r ≡ told (rounded to (suc w) x) (keeps (suc w) x)
-  told_by to {f} {g} {r} p q t = λ i. record { figure = (t.figure_is ∙ p) i; kept = mark i }
-    where
-      mark : r.kept ≡ keeps (suc w) x
-      mark = both_ways r.kept (keeps (suc w) x) (λ e. agreed to (sym p ∙ t.kept_is.same e ∙ q))
-          (λ e. t.kept_is.is_told (p ∙ agree to e ∙ sym q))
 
   -- whether the code finds the two roundings to be the same figure is whether nothing is lost
   pub compared : (to : Direction) {f g : Figure} {r : Bool} → r ≡ (eqb f.digits g.digits && int_eq f.power g.power) → f ≡ rounded to (suc w) x

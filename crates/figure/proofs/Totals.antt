@@ -6,8 +6,6 @@ use native.Mathlib.Omega.{arith}
 use lib.Dec.{lit≤}
 use lib.IntN.{ℤ, pos, ◌+ℤ◌, ◌-ℤ◌}
 use lib.Signed.{mag}
-use mir.Syntax.{w64}
-use mir.Val.{Fits}
 use Rattle.fraction.specs.Fraction.{◌+ᶠ◌}
 use Rattle.fraction.proofs.Ratio.{◌≈◌, ≈_refl, ⊕_cong}
 use Rattle.figure.specs.declared.Figure.{Figure}
@@ -51,9 +49,6 @@ widening_whole a n = go a.digits n
 module _ {a : Figure} (o : Operand 9 a) where
   pub widened_zero : a.digits ≡ 0 → a ≡ widening a
   widened_zero z = zero_is_none (lit≤ tt) o.is_figure z ∙ sym (widening_none a z)
-
-  pub widened_fits : Fits w64 (a.digits * 1000000000)
-  widened_fits = omega (arith, digits_high o.is_figure)
 
   wide_near : mag (a.power -ℤ pos 9) ≤ 200000
   wide_near = omega (arith, mag_difference a.power (pos 9), o.near)

@@ -7,8 +7,6 @@ use lib.Dec.{lit≤}
 use lib.IntN.{ℤ, pos, neg_ℤ, ◌+ℤ◌, ◌-ℤ◌, +ℤ_idl}
 use lib.Pow.{pow-add}
 use lib.Signed.{mag}
-use mir.Syntax.{w64}
-use mir.Val.{Fits}
 use Rattle.fraction.specs.Fraction.{whole, ratio}
 use Rattle.fraction.proofs.Ratio.{≈_refl, ≈_sym}
 use Rattle.fraction.proofs.Signed.{signed_whole, signed_ratio}
@@ -20,7 +18,7 @@ use Rattle.figure.specs.Internal.Steps.{rounded, part, directed, Count}
 use Rattle.figure.proofs.Scale.{pow_pos, ten_units, ten_shift}
 use Rattle.figure.proofs.Value.{value_is}
 use Rattle.figure.proofs.Exact.{over_ten}
-use Rattle.figure.proofs.Stored.{stored, kept, kept_near, mag_sum, mag_difference, mag_negative, read_sum, read_difference}
+use Rattle.figure.proofs.Stored.{stored, kept, mag_sum, mag_difference, mag_negative, read_sum, read_difference}
 use Rattle.figure.proofs.Parts.{part_below}
 use Rattle.figure.proofs.PartsRounded.{rounded_part}
 use Rattle.figure.proofs.Figures.{zero_num, rounded_own, rounded_zero, rounded_same, over_tens}
@@ -50,15 +48,9 @@ module _ {n r t : ℕ} (d : Count 20 n r) (h : r ≤ 9) (t-is : t ≡ 10 ^ (9 - 
   high : n * 10 ^ (9 - r) < 10 ^ 9
   high = omega (arith, mul-lt-mul_of_pos_right d.below (pow_pos (9 - r)), short_power)
 
-  pub padding_fits : Fits w64 (n * t)
-  padding_fits = rw t-is (omega (arith, high))
-
   module _ (e : ℤ) (he : mag e ≤ 200000) {z : ℤ} (z-is : z ≡ pos (9 - r)) where
     zeros_near : mag z ≤ 9
     zeros_near = rw z-is (omega arith)
-
-    pub padding_powers : (mag (stored e) ≤ 1000000000) × (mag (stored z) ≤ 1000000000)
-    padding_powers = (kept_near e (omega arith), kept_near z (omega (arith, zeros_near)))
 
     pub padding_answer : (to : Direction) {u : ℤ} → u ≡ stored e -ℤ stored z → figure (n * t) (stored u) ≡ rounded to 9 (value (figure n e))
     padding_answer to {u} f = ap₂ figure (ap (λ m. n * m) t-is) power ∙ sym (ap (rounded to 9) (value_is (figure n e))
@@ -91,9 +83,6 @@ module _ {n r t : ℕ} (d : Count 20 n r) (h : 9 < r) (t-is : t ≡ 10 ^ (r - 9)
   module _ (e : ℤ) (he : mag e ≤ 200000) {z : ℤ} (z-is : z ≡ pos (r - 9)) where
     dropped_near : mag z ≤ 11
     dropped_near = rw z-is (omega (arith, d.most))
-
-    pub whole_powers : (mag (stored e) ≤ 1000000000) × (mag (stored z) ≤ 1000000000)
-    whole_powers = (kept_near e (omega arith), kept_near z (omega (arith, dropped_near)))
 
     module _ {u : ℤ} (u-is : u ≡ stored e +ℤ stored z) where
       sum_is : u ≡ e +ℤ z
