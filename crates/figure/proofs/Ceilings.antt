@@ -1,19 +1,20 @@
 -- The least whole number not below a figure, by the figure's power. Assumes nothing.
 use mathlib.Core.Path.{◌≡◌, refl, sym, ◌∙◌, ap, ap₂}
 use mathlib.Core.Bool.{Bool, true, false, false≢true}
-use Prim.Native.Nat.{ℕ, zero, suc, ◌+◌, ◌-◌, ◌*◌, ◌/◌, ◌^◌, ◌≤◌, ◌<◌}
-use native.Mathlib.Nat.{le_refl, le_trans, not-suc-le-zero, lt_irrefl, lt_of_not-le, not-le_of_lt, mul-le-mul}
+use Prim.Native.Nat.{ℕ, zero, suc, ◌*◌, ◌^◌, ◌≤◌, ◌<◌}
+use native.Mathlib.Nat.{le_refl, le_trans, not-suc-le-zero, lt_irrefl, lt_of_not-le, not-le_of_lt, mul-le-mul, lt_of_mul-lt-mul_right}
 use native.Mathlib.Omega.{arith}
-use lib.Dec.{T, leb, lit≤}
+use lib.Dec.{leb, lit≤}
 use lib.IntN.{ℤ, pos, negsuc, neg_ℤ, nat_abs, ◌-ℤ◌}
-use lib.Signed.{mag, le_z, lt_z, non_neg}
-use mir.Syntax.{w32, w64}
-use mir.Val.{SFits, Fits}
-use mir.Facts.{to_z-of_z, Fits-nat_abs}
+use lib.Signed.{mag, le_z, lt_z}
+use mir.Syntax.{w32}
+use mir.Val.{SFits}
+use mir.Facts.{to_z-of_z}
 use borrow.Author.Tests.{le-leb, lt-leb, leb-true, leb-false, ltb-true, ltb-false}
+use Rattle.std.specs.Int.{div_ceil}
+use Rattle.std.proofs.lemmas.Grind.{div_ceil_times}
 use Rattle.fraction.specs.Fraction.{whole, at_most}
 use Rattle.fraction.proofs.Ratio.{◌≼◌, ◌≈◌, ofℕ, ◌⊗◌, ≼_trans, ≈_refl, ≈_sym, ≈_trans, ≈_le, ≈_ge, ⊗_cong, ⊗_comm, ⊗_assoc, ⊗_one, ofℕ-⊗, ofℕ-≼, ofℕ-≤}
-use Rattle.fraction.proofs.Multiples.{ceilDiv, ceil_reach, ceil_least}
 use Rattle.fraction.proofs.PowersOfTen.{ten_to, ten_nat}
 use Rattle.fraction.proofs.Signed.{signed_whole, at_most_signed}
 use Rattle.figure.specs.declared.Figure.{Figure}
@@ -21,7 +22,7 @@ use Rattle.figure.specs.Rounding.{value, IsFigure, is_zero, is_whole}
 use Rattle.figure.proofs.Scale.{pow_pos, pow_mono, multiple-≤, multiple-≼, power_inverse}
 use Rattle.figure.proofs.Value.{val, value_is}
 use Rattle.figure.proofs.Figures.{digits_high}
-use Rattle.figure.proofs.Stored.{stored, mag_difference, both_fit, both_kept, gap_fits}
+use Rattle.figure.proofs.Stored.{stored, mag_difference, both_kept}
 use Rattle.figure.specs.Internal.Ceiling.{Ceiling}
 
 -- ---- two tests that say the same
@@ -95,22 +96,9 @@ module _ (g : Figure) (i : IsFigure 9 g) (fits : SFits w32 g.power) where
     whole_index : nat_abs (stored g.power) ≡ whole_power.0
     whole_index = ap nat_abs (read ∙ whole_power.1.0)
 
-    pub whole_cast : T (non_neg (stored g.power)) × Fits w64 (nat_abs (stored g.power))
-    whole_cast = rw (read) (rw whole_power.1.0 tt, Fits-nat_abs tt fits)
-
-    pub whole_below : nat_abs (stored g.power) < 10
-    whole_below = rw whole_index whole_power.1.1
-
     module _ (t : ℕ) (is : t ≡ 10 ^ nat_abs (stored g.power)) where
       whole_ten : t ≡ 10 ^ whole_power.0
       whole_ten = is ∙ ap (λ n. 10 ^ n) whole_index
-
-      pub whole_fits : Fits w64 (g.digits * t)
-      whole_fits = omega (arith, product)
-        where
-          product : g.digits * t ≤ 1000000000 * 1000000000
-          product = mul-le-mul {n₂ = 1000000000} {m₂ = 1000000000} (omega (arith, digits_high i))
-              (rw whole_ten (pow_mono {i = whole_power.0} {j = 9} (omega (arith, whole_power.1.1))))
 
       pub ceiling_whole : Ceiling g (g.digits * t)
       ceiling_whole = record {
@@ -153,15 +141,6 @@ module _ (g : Figure) (i : IsFigure 9 g) (fits : SFits w32 g.power) where
     part_index : nat_abs (stored (pos 0 -ℤ stored g.power)) ≡ suc part_power.0
     part_index = ap nat_abs turned
 
-    pub part_fit : SFits w32 (pos 0 -ℤ stored g.power)
-    part_fit = both_fit ◌-ℤ◌ mag_difference (pos 0) g.power (lit≤ tt) near
-
-    pub part_cast : T (non_neg (stored (pos 0 -ℤ stored g.power))) × Fits w64 (nat_abs (stored (pos 0 -ℤ stored g.power)))
-    part_cast = gap_fits {p = pos 0} {q = g.power} (record { le = rw part_power.1.0 tt }) (lit≤ tt) near
-
-    pub part_below : nat_abs (stored (pos 0 -ℤ stored g.power)) < 10
-    part_below = rw part_index (omega (arith, part_power.1.1))
-
     module _ (t : ℕ) (is : t ≡ 10 ^ nat_abs (stored (pos 0 -ℤ stored g.power))) where
       part_ten : t ≡ 10 ^ suc part_power.0
       part_ten = is ∙ ap (λ n. 10 ^ n) part_index
@@ -169,19 +148,17 @@ module _ (g : Figure) (i : IsFigure 9 g) (fits : SFits w32 g.power) where
       pub part_pos : 0 < t
       part_pos = rw part_ten (pow_pos (suc part_power.0))
 
-      pub part_fits : Fits w64 (g.digits + (t - 1))
-      part_fits = omega (arith, digits_high i, most)
-        where
-          most : t ≤ 1000000000
-          most = rw part_ten (pow_mono {i = suc part_power.0} {j = 9} (omega (arith, part_power.1.1)))
-
-      pub ceiling_part : Ceiling g ((g.digits + (t - 1)) / t)
-      unfolding ceilDiv
+      pub ceiling_part : Ceiling g (div_ceil g.digits t)
       ceiling_part = record {
         same = λ n small.
             below g (suc part_power.0) part_power.1.0 n ∙ ap (λ m. leb g.digits (n * m)) (sym part_ten) ∙ quotient n;
       }
         where
-          quotient : (n : ℕ) → leb g.digits (n * t) ≡ leb ((g.digits + (t - 1)) / t) n
-          quotient n = same_test g.digits (n * t) (ceilDiv g.digits t) n (ceil_least g.digits t n part_pos)
-              (λ h. le_trans (ceil_reach g.digits t part_pos) (mul-le-mul h (le_refl t)))
+          least : (n : ℕ) → g.digits ≤ n * t → div_ceil g.digits t ≤ n
+          least n l =
+              let h : div_ceil g.digits t * t < suc n * t = omega (arith, l, (div_ceil_times g.digits t part_pos).1) in
+              omega (arith, lt_of_mul-lt-mul_right t h)
+
+          quotient : (n : ℕ) → leb g.digits (n * t) ≡ leb (div_ceil g.digits t) n
+          quotient n = same_test g.digits (n * t) (div_ceil g.digits t) n (least n)
+              (λ h. le_trans (div_ceil_times g.digits t part_pos).0 (mul-le-mul h (le_refl t)))

@@ -3,15 +3,12 @@
 use mathlib.Core.Path.{◌≡◌, refl, sym, ◌∙◌, ap, ap₂}
 use mathlib.Core.Bool.{Bool, true, false, not, ◌||◌}
 use Prim.Native.Nat.{ℕ, zero, suc, ◌+◌, ◌-◌, ◌*◌, ◌/◌, ◌%◌, ◌^◌, ◌≤◌, ◌<◌}
-use native.Mathlib.Nat.{div-mul-le_self, div-add-mod', mod-lt, div-eq_of_lt-le, div-lt_iff_lt-mul, zero-lt-suc}
+use native.Mathlib.Nat.{div-add-mod', mod-lt, div-eq_of_lt-le, div-lt_iff_lt-mul, zero-lt-suc}
 use native.Mathlib.Nat.{pow-suc, mul-le-mul_right, mul-pos, mul-div_cancel, lt_irrefl, lt_of_lt_of_le, pow-le-pow_right}
 use native.Mathlib.Omega.{arith}
 use lib.Dec.{eqb, lit≤}
 use lib.IntN.{ℤ, pos, ◌+ℤ◌}
 use lib.Signed.{mag}
-use mir.Facts.{Fits-le}
-use mir.Syntax.{w64}
-use mir.Val.{Fits}
 use borrow.Author.Tests.{eq-eqb, ne_eqb, lt-ltb, le-ltb}
 use Rattle.figure.specs.declared.Figure.{Figure}
 use Rattle.figure.specs.declared.Direction.{Direction}
@@ -52,9 +49,6 @@ at_part n d q r e l = let w : n / d ≡ q = div-eq_of_lt-le d (omega arith) (ome
 
 pub part_split : (n d : ℕ) → 0 < d → part n d ≡ parts (n / d) (some (n % d))
 part_split n d h = at_part n d (n / d) (n % d) (sym (div-add-mod' n d)) (mod-lt n h)
-
-pub part_fits : {n : ℕ} (d : ℕ) → Fits w64 n → Fits w64 (n / d * d)
-part_fits {n} d f = Fits-le (div-mul-le_self n d) f
 
 pub part_below : (n d m : ℕ) {q : Part} → q ≡ part n d → 0 < d → n < m * d → q.whole < m
 part_below n d m e h l = rw e (unfold part in (div-lt_iff_lt-mul h).1 l)

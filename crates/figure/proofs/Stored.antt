@@ -1,6 +1,6 @@
 -- Powers as 32-bit numbers: a sum or a difference of two that are not large is stored and read back unchanged. `mag z` is n for n and for
 -- -(n + 1). Assumes nothing.
-use mathlib.Core.Path.{◌≡◌, sym, ◌∙◌, ap, ap₂}
+use mathlib.Core.Path.{◌≡◌, ◌∙◌, ap, ap₂}
 use mathlib.Core.Bool.{Bool, true, false, not, cond, true≢false}
 use Prim.Native.Nat.{ℕ, zero, suc, suc-le-suc, ◌+◌, ◌-◌, ◌≤◌}
 use native.Mathlib.Nat.{le_trans, le_of_lt}
@@ -115,6 +115,3 @@ turned (negsuc a) (negsuc b) h = le→leb b a (le_of_lt (leb-false a b h))
 module _ (p q : ℤ) (hp : mag p ≤ 1000000000) (hq : mag q ≤ 1000000000) where
   pub read_test : le_z (stored q) (stored p) ≡ le_z q p
   read_test = ap₂ le_z (kept q (omega arith)) (kept p (omega arith))
-
-  pub in_order : le_z (stored q) (stored p) ≡ true → q ≤ℤ p
-  in_order h = record { le = rw (sym read_test ∙ h) tt }

@@ -27,9 +27,15 @@ module _ (f : Figure) where
   unfolding figure_test
   few_digits n l = rw (ne_eqb f.digits 0 n, lt-ltb f.digits 100000000 l, figure_test)
 
-  pub more_digits : (f.digits ≡ 0 → ⊥) → 100000000 ≤ f.digits → ltb f.digits 1000000000 ≡ figure_test f
+  many_digits : 100000000 ≤ f.digits → ltb f.digits 1000000000 ≡ figure_test f
   unfolding figure_test
-  more_digits n l = rw (ne_eqb f.digits 0 n, le-ltb f.digits 100000000 l, figure_test)
+  many_digits l = let n : f.digits ≡ 0 → ⊥ = λ e. absurd (omega (arith, l, e)) in rw (ne_eqb f.digits 0 n, le-ltb f.digits 100000000 l, figure_test)
+
+  pub nine_digits : 100000000 ≤ f.digits → f.digits < 1000000000 → true ≡ figure_test f
+  nine_digits l u = sym (lt-ltb f.digits 1000000000 u) ∙ many_digits l
+
+  pub more_digits : 1000000000 ≤ f.digits → false ≡ figure_test f
+  more_digits l = sym (le-ltb f.digits 1000000000 l) ∙ many_digits (omega (arith, l))
 
 -- ---- the test is right
 
@@ -52,5 +58,4 @@ tested f = record { held = held (eqb d 0) (eqb-true d 0) (ltb d 100000000) (ltb-
 
     other : IsFigure 9 f → figure_test f ≡ false → ⊥
     other (is_zero z p) h = true≢false (sym (rw (eq-eqb d 0 z, p, figure_test)) ∙ h)
-    other (is_whole l u) h =
-        true≢false (sym (lt-ltb d 1000000000 u) ∙ more_digits f (λ e. absurd (omega (arith, l, e))) (omega (arith, l)) ∙ h)
+    other (is_whole l u) h = true≢false (nine_digits f (omega (arith, l)) u ∙ h)

@@ -16,9 +16,8 @@ pub(crate) fn ceiling(g: Figure) -> u64
     if 0 <= power {
         return g.digits * powers::ten_to(power as usize);
     }
-    if power < 0 - 9 {
+    if power < -9 {
         return 1;
     }
-    let d = powers::ten_to((0 - power) as usize);
-    (g.digits + (d - 1)) / d
+    g.digits.div_ceil(powers::ten_to(-power as usize))
 }

@@ -74,13 +74,11 @@ impl Figure {
     pub fn is_figure(self) -> bool
         ensures { result ≡ figure_test self }
     {
-        if self.digits == 0 {
-            return self.power == 0;
+        match self.digits {
+            0 => self.power == 0,
+            100_000_000..=999_999_999 => true,
+            _ => false,
         }
-        if self.digits < 100_000_000 {
-            return false;
-        }
-        self.digits < 1_000_000_000
     }
 
     // The whole number n, rounded down; exact up to nine digits.
