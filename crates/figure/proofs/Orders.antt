@@ -1,16 +1,18 @@
 -- The order of two figures: of two with different powers, the one with the higher power is the larger. Assumes nothing.
 use mathlib.Core.Path.{◌≡◌, refl, sym, ◌∙◌, ap, ap₂}
 use mathlib.Core.Bool.{Bool, true, false, cond, true≢false}
-use Prim.Native.Nat.{ℕ, suc, ◌+◌, ◌-◌, ◌*◌, ◌^◌, ◌≤◌, ◌<◌}
+use Prim.Native.Nat.{ℕ, suc, ◌+◌, ◌-◌, ◌*◌, ◌^◌, ◌<◌}
 use native.Mathlib.Nat.{le_refl, le_of_lt, not-le_of_lt, lt_of_not-le, pow-succ', pos_of_ne-zero}
 use native.Mathlib.Omega.{arith}
-use lib.Dec.{T, ltb, ltb→lt, leb}
+use lib.Dec.{ltb, leb}
 use lib.IntN.{ℤ, pos, negsuc, ◌+ℤ◌}
 use lib.Signed.{le_z}
-use mir.Syntax.{w32}
-use mir.Val.{SFits, to_z, of_z}
-use mir.Facts.{to_z-of_z}
-use borrow.Author.Tests.{le-leb, lt-leb, leb-true, leb-false}
+use borrow.Author.Tests.{le-leb, lt-leb}
+use lib.Signed.{◌<ℤ◌, clash_ℤ}
+use Rattle.std.proofs.Common.{Ordering, Less, Equal, Greater}
+use Rattle.std.specs.Ordering.{MatchOrdering, is_some_and, is_le, int_cmp, nat_cmp, partial_ordering_then}
+use Rattle.std.specs.Cmp.{int_ranks, ranks}
+use Rattle.std.specs.Prelude.{Some}
 use Rattle.fraction.proofs.Ratio.{◌≼◌, ofℕ, ◌⊗◌, ≼_trans, zero_below}
 use Rattle.fraction.proofs.PowersOfTen.{ten_to}
 use Rattle.fraction.proofs.Signed.{at_most_signed}
@@ -20,7 +22,6 @@ use Rattle.figure.specs.Rounding.{IsFigure}
 use Rattle.figure.specs.Operations.{at_or_below}
 use Rattle.figure.proofs.Scale.{not_zero, multiple_pos, multiple-≤, multiple-≼, higher-≼, Powers, same_power, lower, higher, powers}
 use Rattle.figure.proofs.Value.{val, value_is}
-use Rattle.figure.proofs.Stored.{stored}
 use Rattle.figure.proofs.Figures.{digits_high, digits_low, zero_num}
 
 -- ---- powers
@@ -37,14 +38,6 @@ le_raised (negsuc a) k = go (ltb k (suc a))
     go true = le-leb (suc a - suc k) a (omega arith)
     go false = refl
 
-not_raised : (p : ℤ) (k : ℕ) → le_z (p +ℤ pos (suc k)) p ≡ false
-not_raised (pos a) k = lt-leb (a + suc k) a (omega arith)
-not_raised (negsuc a) k = go (ltb (suc k) (suc a)) (ltb→lt (suc k) (suc a))
-  where
-    go : (t : Bool) → (T t → suc k < suc a) → le_z (cond t (negsuc (suc a - suc (suc k))) (pos (suc k - suc a))) (negsuc a) ≡ false
-    go true h = lt-leb a (suc a - suc (suc k)) (omega (arith, h tt))
-    go false h = refl
-
 -- a test of the order that failed, and one that held at different powers
 pub above_strictly : (p q : ℤ) → le_z q p ≡ false → (k : ℕ) × (q ≡ p +ℤ pos (suc k))
 above_strictly p q h = go (powers p q)
@@ -54,13 +47,12 @@ above_strictly p q h = go (powers p q)
     go (lower k r) = (k, r)
     go (higher k r) = absurd (true≢false (sym (le_raised q (suc k)) ∙ ap (le_z q) (sym r) ∙ h))
 
-pub below_strictly : (p q : ℤ) → le_z p q ≡ true → (p ≡ q → ⊥) → (k : ℕ) × (q ≡ p +ℤ pos (suc k))
-below_strictly p q h n = go (powers p q)
+strictly_above : {p q : ℤ} → p <ℤ q → (k : ℕ) × (q ≡ p +ℤ pos (suc k))
+strictly_above {p} {q} h = go (le_z q p) refl
   where
-    go : Powers p q → (k : ℕ) × (q ≡ p +ℤ pos (suc k))
-    go (same_power r) = absurd (n r)
-    go (lower k r) = (k, r)
-    go (higher k r) = absurd (true≢false (sym h ∙ ap (λ z. le_z z q) r ∙ not_raised q k))
+    go : (t : Bool) → le_z q p ≡ t → (k : ℕ) × (q ≡ p +ℤ pos (suc k))
+    go true e = clash_ℤ h (record { le = rw e tt })
+    go false e = above_strictly p q e
 
 -- ---- figures of w + 1 digits, b with the higher power
 
@@ -97,27 +89,16 @@ module _ (a b : Figure) where
   pub second_zero : (a.digits ≡ 0 → ⊥) → b.digits ≡ 0 → false ≡ at_or_below a b
   second_zero n z = found_above a b (λ h. not_zero (val a) b.power (multiple_pos a.digits a.power (pos_of_ne-zero n)) (rw z at h))
 
-  module _ (fa : SFits w32 a.power) (fb : SFits w32 b.power) where
-    pub same_power_is : of_z w32 a.power ≡ of_z w32 b.power → a.power ≡ b.power
-    same_power_is e = sym (to_z-of_z fa) ∙ ap (to_z w32) e ∙ to_z-of_z fb
-
-    pub one_power : of_z w32 a.power ≡ of_z w32 b.power → leb a.digits b.digits ≡ at_or_below a b
-    one_power e = go (leb a.digits b.digits) (leb-true a.digits b.digits) (leb-false a.digits b.digits)
-      where
-        r : a.power ≡ b.power
-        r = same_power_is e
-
-        go : (t : Bool) → (t ≡ true → a.digits ≤ b.digits) → (t ≡ false → b.digits < a.digits) → t ≡ at_or_below a b
-        go true p q = found_below a b (rw r (multiple-≼ b.power (p refl)))
-        go false p q = found_above a b (λ h. not-le_of_lt (q refl) (multiple-≤ a.digits b.digits b.power (rw r at h)))
-
-    pub two_powers : IsFigure 9 a → IsFigure 9 b → (a.digits ≡ 0 → ⊥) → (b.digits ≡ 0 → ⊥) → (of_z w32 a.power ≡ of_z w32 b.power → ⊥)
-        → le_z (stored a.power) (stored b.power) ≡ at_or_below a b
-    two_powers ia ib na nb d =
-        ap₂ le_z (to_z-of_z fa) (to_z-of_z fb)
-        ∙ go (le_z a.power b.power) (λ h. below_strictly a.power b.power h (λ e. d (ap (of_z w32) e))) (above_strictly b.power a.power)
-      where
-        go : (t : Bool) → (t ≡ true → (k : ℕ) × (b.power ≡ a.power +ℤ pos (suc k))) → (t ≡ false → (k : ℕ) × (a.power ≡ b.power +ℤ pos (suc k)))
-            → t ≡ at_or_below a b
-        go true p q = found_below a b (lower_value 8 a b ia ib nb (p refl).0 (p refl).1)
-        go false p q = found_above a b (higher_value 8 b a ib ia na (q refl).0 (q refl).1)
+  -- two that are not zero: by their powers, and at one power by their digits
+  pub two_whole : IsFigure 9 a → IsFigure 9 b → (a.digits ≡ 0 → ⊥) → (b.digits ≡ 0 → ⊥)
+      → is_some_and is_le (partial_ordering_then (Some (int_cmp a.power b.power)) (Some (nat_cmp a.digits b.digits))) ≡ at_or_below a b
+  two_whole ia ib na nb = go (int_cmp a.power b.power) (int_ranks a.power b.power) (nat_cmp a.digits b.digits) (ranks a.digits b.digits)
+    where
+      go : (p : Ordering) → MatchOrdering p (a.power <ℤ b.power) (a.power ≡ b.power) (b.power <ℤ a.power)
+          → (d : Ordering) → MatchOrdering d (a.digits < b.digits) (a.digits ≡ b.digits) (b.digits < a.digits)
+          → is_some_and is_le (partial_ordering_then (Some p) (Some d)) ≡ at_or_below a b
+      go Less h d m = let (k, r) = strictly_above h in found_below a b (lower_value 8 a b ia ib nb k r)
+      go Greater h d m = let (k, r) = strictly_above h in found_above a b (higher_value 8 b a ib ia na k r)
+      go Equal e Less m = found_below a b (rw e (multiple-≼ b.power (le_of_lt m)))
+      go Equal e Equal m = found_below a b (rw (e, m) (multiple-≼ b.power (le_refl b.digits)))
+      go Equal e Greater m = found_above a b (λ h. not-le_of_lt m (multiple-≤ a.digits b.digits b.power (rw e at h)))

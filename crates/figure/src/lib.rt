@@ -307,10 +307,7 @@ impl Figure {
         if other.digits == 0 {
             return false;
         }
-        if self.power == other.power {
-            return self.digits <= other.digits;
-        }
-        self.power <= other.power
+        (self.power, self.digits) <= (other.power, other.digits)
     }
 
     // A total of eighteen digits, with a figure of nine added.

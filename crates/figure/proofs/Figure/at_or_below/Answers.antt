@@ -1,6 +1,10 @@
 -- `Figure::at_or_below` meets its contract. Assumes nothing.
+use mathlib.Core.Path.{◌∙◌}
 use borrow.Author.Rules.{rules}
-use Rattle.figure.proofs.Orders.{first_zero, second_zero, one_power, two_powers}
+use mir.Syntax.{w32}
+use mir.Val.{SFits}
+use mir.Facts.{to_z-of_z}
+use Rattle.figure.proofs.Orders.{first_zero, second_zero, two_whole}
 use Rattle.figure.proofs.Figure.at_or_below.Goals as goal
 
 pub returns-then-self-eq0 : goal.returns-then-self-eq0
@@ -9,9 +13,9 @@ returns-then-self-eq0 c = first_zero c.args.self c.args.other c.if-self-eq0.true
 pub returns-then-other-eq0 : goal.returns-then-other-eq0
 returns-then-other-eq0 c = second_zero c.args.self c.args.other c.if-self-eq0.false c.if-other-eq0.true
 
-pub returns-then-self-other : goal.returns-then-self-other
-returns-then-self-other c = one_power c.args.self c.args.other (search rules) (search rules) c.if-self-other.true
-
 pub returns : goal.returns
 returns c =
-    two_powers c.args.self c.args.other (search rules) (search rules) c.requires.0 c.requires.1 c.if-self-eq0.false c.if-other-eq0.false c.if-self-other.false
+    let a : SFits w32 c.args.self.power = search rules in
+    let b : SFits w32 c.args.other.power = search rules in
+    (rw (to_z-of_z a, to_z-of_z b) at c.le.ensures)
+    ∙ two_whole c.args.self c.args.other c.requires.0 c.requires.1 c.if-self-eq0.false c.if-other-eq0.false
