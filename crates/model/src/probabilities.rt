@@ -10,16 +10,15 @@ ghost use Rattle.model.specs.Internal.Parts.{
 };
 
 use crate::index::Index;
-use word::fields::{is_fast, quantity_at};
+use word::fields::{coefficient, is_fast, scale};
 
-// The probability at the part's first word, as a whole number of 10^-12.
+// The probability that the word w says, as a whole number of 10^-12.
 #[tactic(auto, using(crate::proofs::Units::units_high))]
-fn units(part: &[u32]) -> u64
-    ensures value { result ≡ coefficient_field (get_or part.now 0 0) * 10 ^ (12 - scale_field (get_or part.now 0 0)) }
+fn units(w: u32) -> u64
+    ensures value { result ≡ coefficient_field w * 10 ^ (12 - scale_field w) }
     ensures upper_bound { result ≤ 1048575000000000000 }
 {
-    let q = quantity_at(part);
-    u64::from(q.coefficient) * 10u64.pow(12u32.saturating_sub(q.scale))
+    u64::from(coefficient(w)) * 10u64.pow(12u32.saturating_sub(scale(w)))
 }
 
 // The sum of the probabilities of the fast exits of the state s.
@@ -31,8 +30,7 @@ fn fast_sum(words: &[u32], index: &Index, s: usize) -> Option<u64>
     for &j in index.exits(s) {
         let at = index.place_of(usize::from(j));
         if is_fast(words[at]) {
-            let third = at + 3;
-            sum = Some(sum.unwrap_or(0) + units(&words[third..]));
+            sum = Some(sum.unwrap_or(0) + units(words[at + 3]));
         }
     }
     sum

@@ -8,7 +8,7 @@ ghost use Rattle.model.specs.Internal.Parts as parts;
 use crate::Accepted;
 use crate::index::Index;
 use word::faults::ensure;
-use word::fields::{from, is_fast, word_at};
+use word::fields::{from, is_fast};
 use word::kinds::Kind;
 use word::{Refusal, faults};
 
@@ -46,7 +46,7 @@ fn tested(words: &[u32], a: Accepted, at: usize, known: usize, index: &Index) ->
     requires { parts.AtTransition a words.now at known index.now }
     ensures { parts.Tested a words.now at known index.now result }
 {
-    let w = word_at(&words[at..]);
+    let w = words[at];
     faults::transition(w, at, a.states)?;
     room(words, w, at, known, index)?;
     body(words, at + 1, is_fast(w))
@@ -64,7 +64,7 @@ fn transition(
     ensures { parts.Stepped a words.now at known index.new result }
 {
     tested(words, a, at, known, index)?;
-    let w = word_at(&words[at..]);
+    let w = words[at];
     index.enter(from(w), known, at);
     Ok(Some(if is_fast(w) { at + 4 } else { at + 2 }))
 }

@@ -3,7 +3,6 @@ use Rattle.std.proofs.Common.{◌≡◌, ◌<◌, ◌≤◌, sym, ap, ◌∙◌,
 use borrow.Author.Tests.{eqb-true, eqb-false}
 use Rattle.model.specs.Index.{exit_count, place_of, transition_at}
 use Rattle.model.specs.Internal.Parts.{slot_place, slot_transitions}
-use Rattle.word.proofs.Parts.{part_from}
 use Rattle.model.proofs.Along.{along_turn, along_none}
 use Rattle.model.proofs.Slots.{exits_slot}
 use Rattle.model.proofs.Units.{Summed, summed_fast_word, summed_slow_word, summed_all}
@@ -22,7 +21,7 @@ loop-j-preserved c =
     rw at_is (rw (along_turn _ (exit_count c.args.index.now c.args.s) i more) at c.loop-j.invariant) in
     elim c.if-is_fast.branch [
       | then-is_fast w ↦ rw (w.sum-is, w.unwrap_or.ensures) (summed_fast_word c.args.words.now c.place_of-at.result _ _ i c.loop-j.sum turn
-          (eqb-true _ 7 (sym c.is_fast.ensures ∙ w.if-is_fast.true)) w.units.result (rw part_from at w.units.ensures.value) w.units.ensures.upper_bound)
+          (eqb-true _ 7 (sym c.is_fast.ensures ∙ w.if-is_fast.true)) w.units.result w.units.ensures.value w.units.ensures.upper_bound)
       | else-is_fast w ↦ rw w.sum-is (summed_slow_word c.args.words.now c.place_of-at.result _ _ i c.loop-j.sum turn
           (eqb-false _ 7 (sym c.is_fast.ensures ∙ w.if-is_fast.false)))
     ]
