@@ -41,34 +41,6 @@ fn body(words: &[u32], at: usize, fast: bool) -> Result<(), Refusal>
     faults::quantity(&words[third..], third, Kind::Probability, 12, 1)
 }
 
-// All tests of the transition whose word, of kind 5 or 7, stands at `at`.
-fn tested(words: &[u32], a: Accepted, at: usize, known: usize, index: &Index) -> Result<(), Refusal>
-    requires { parts.AtTransition a words.now at known index.now }
-    ensures { parts.Tested a words.now at known index.now result }
-{
-    let w = words[at];
-    faults::transition(w, at, a.states)?;
-    room(words, w, at, known, index)?;
-    body(words, at + 1, is_fast(w))
-}
-
-// One transition more: the place behind it.
-fn transition(
-    words: &[u32],
-    a: Accepted,
-    at: usize,
-    known: usize,
-    index: &mut Index,
-) -> Result<Option<usize>, Refusal>
-    requires { parts.AtTransition a words.now at known index.old }
-    ensures { parts.Stepped a words.now at known index.new result }
-{
-    tested(words, a, at, known, index)?;
-    let w = words[at];
-    index.enter(from(w), known, at);
-    Ok(Some(if is_fast(w) { at + 4 } else { at + 2 }))
-}
-
 // The end, whose word stands at `at`: no word follows it.
 fn end(words: &[u32], at: usize) -> Result<(), Refusal>
     requires { at < length words.now }
@@ -79,31 +51,58 @@ fn end(words: &[u32], at: usize) -> Result<(), Refusal>
     ensure(words.len() <= behind, Refusal::WrongKind(behind))
 }
 
-// One turn, where a transition or the end is called for at `at`: the place behind the transition, none at the end.
-fn next(
-    words: &[u32],
+// How far reading has come: the words, what the first four of them say, the place of the next one and the number of transitions before it.
+#[derive(Clone, Copy)]
+struct Progress<'a> {
+    words: &'a [u32],
     a: Accepted,
     at: usize,
     known: usize,
-    index: &mut Index,
-) -> Result<Option<usize>, Refusal>
-    requires begun { parts.Begun a words.now at known index.old }
-    requires words_len_bound { length words.now ≤ most_words }
-    ensures { parts.Stepped a words.now at known index.new result }
-{
-    let Some(&w) = words.get(at) else {
-        return Err(Refusal::WrongKind(at));
-    };
-    let Some(kind) = Kind::of(w) else {
-        return Err(Refusal::WrongKind(at));
-    };
-    match kind {
-        Kind::SlowTransition | Kind::FastTransition => transition(words, a, at, known, index),
-        Kind::End => {
-            end(words, at)?;
-            Ok(None)
+}
+
+impl Progress<'_> {
+    // All tests of the transition whose word, of kind 5 or 7, stands here.
+    fn tested(&self, index: &Index) -> Result<(), Refusal>
+        requires { parts.AtTransition self.now.a self.now.words.now self.now.at self.now.known index.now }
+        ensures { parts.Tested self.now.a self.now.words.now self.now.at self.now.known index.now result }
+    {
+        let w = self.words[self.at];
+        faults::transition(w, self.at, self.a.states)?;
+        room(self.words, w, self.at, self.known, index)?;
+        body(self.words, self.at + 1, is_fast(w))
+    }
+
+    // One transition more: the place behind it.
+    fn transition(&self, index: &mut Index) -> Result<Option<usize>, Refusal>
+        requires { parts.AtTransition self.now.a self.now.words.now self.now.at self.now.known index.old }
+        ensures { parts.Stepped self.now.a self.now.words.now self.now.at self.now.known index.new result }
+    {
+        self.tested(index)?;
+        let w = self.words[self.at];
+        index.enter(from(w), self.known, self.at);
+        Ok(Some(self.at + if is_fast(w) { 4 } else { 2 }))
+    }
+
+    // One turn, where a transition or the end is called for: the place behind the transition, none at the end.
+    fn next(&self, index: &mut Index) -> Result<Option<usize>, Refusal>
+        requires begun { parts.Begun self.now.a self.now.words.now self.now.at self.now.known index.old }
+        requires words_len_bound { length self.now.words.now ≤ most_words }
+        ensures { parts.Stepped self.now.a self.now.words.now self.now.at self.now.known index.new result }
+    {
+        let Some(&w) = self.words.get(self.at) else {
+            return Err(Refusal::WrongKind(self.at));
+        };
+        let Some(kind) = Kind::of(w) else {
+            return Err(Refusal::WrongKind(self.at));
+        };
+        match kind {
+            Kind::SlowTransition | Kind::FastTransition => self.transition(index),
+            Kind::End => {
+                end(self.words, self.at)?;
+                Ok(None)
+            }
+            _ => Err(Refusal::WrongKind(self.at)),
         }
-        _ => Err(Refusal::WrongKind(at)),
     }
 }
 
@@ -119,11 +118,15 @@ pub(crate) fn list(
     ensures { parts.Listed a words.now index.new result }
 {
     // kept: (d) the place of each transition follows from the word before, so no range or iterator gives it
-    let mut at: usize = first;
-    let mut known: usize = 0;
-    while let Some(behind) = next(words, a, at, known, index)? {
-        at = behind;
-        known += 1;
+    let mut so_far = Progress {
+        words,
+        a,
+        at: first,
+        known: 0,
+    };
+    while let Some(behind) = so_far.next(index)? {
+        so_far.at = behind;
+        so_far.known += 1;
     }
     Ok(())
 }

@@ -1,10 +1,10 @@
--- `model::transitions::tested` meets its contract. Assumes nothing.
+-- `model::transitions::Progress::tested` meets its contract. Assumes nothing.
 use Rattle.std.proofs.Common.{sym, ap, ◌∙◌, arith, ◌+◌, ◌<◌, Bool, get_or}
 use Rattle.std.proofs.lemmas.Result.{err_from_is_err_and}
 use Rattle.model.specs.Internal.Parts.{words_answer, body_faults}
 use Rattle.model.proofs.Filled.{leads}
 use Rattle.model.proofs.Turn.{fields_stop, from_small, room_stop, tested_is}
-use Rattle.model.proofs.transitions.tested.Goals as goal
+use Rattle.model.proofs.transitions.Progress.tested.Goals as goal
 
 pub returns-in_err-transition : goal.returns-in_err-transition
 returns-in_err-transition c =
@@ -13,17 +13,17 @@ returns-in_err-transition c =
 
 pub room-requires : goal.room-requires
 room-requires c =
-    let small : get_or c.args.words.now c.args.at 0 < 4294967296 = omega (arith, c.type_inv.words c.args.at) in
+    let small : get_or c.args.self.now.words.now c.args.self.now.at 0 < 4294967296 = omega arith in
     leads _ _ _ _ c.requires.begun _ (from_small _ _ _ _ _ c.requires small (sym c.in_ok-transition.ensures))
 
 pub returns-in_err-room : goal.returns-in_err-room
 returns-in_err-room c =
     let p = err_from_is_err_and c.from_residual-in_err-room.result c.from_residual-in_err-room.ensures.1 in
-    let small : get_or c.args.words.now c.args.at 0 < 4294967296 = omega (arith, c.type_inv.words c.args.at) in
+    let small : get_or c.args.self.now.words.now c.args.self.now.at 0 < 4294967296 = omega arith in
     rw (p.1, p.2) (room_stop _ _ _ _ _ c.requires small (sym c.in_ok-transition.ensures) _ _ (sym c.in_err-room.ensures))
 
 pub returns : goal.returns
 returns c =
-    let small : get_or c.args.words.now c.args.at 0 < 4294967296 = omega (arith, c.type_inv.words c.args.at) in
+    let small : get_or c.args.self.now.words.now c.args.self.now.at 0 < 4294967296 = omega arith in
     tested_is _ _ _ _ _ c.requires small (sym c.in_ok-transition.ensures) (sym c.in_ok-room.ensures) c.body.result
-    (c.body.ensures ∙ ap (λ (b : Bool). words_answer (body_faults b) (c.args.at + 1) c.args.words.now) c.is_fast.ensures)
+    (c.body.ensures ∙ ap (λ (b : Bool). words_answer (body_faults b) (c.args.self.now.at + 1) c.args.self.now.words.now) c.is_fast.ensures)
