@@ -14,6 +14,7 @@ use Rattle.word.specs.Model.{Transition, Net, any, numbers_from, is_named, only,
 use Rattle.word.proofs.Members.{is_empty_length, only_append, numbers_last}
 use Rattle.word.proofs.Tests.{flag_test}
 use Rattle.word.specs.Words.{to_field}
+use Rattle.model.specs.declared.index.Index.{Index}
 use Rattle.model.specs.Index.{no_transition, transition}
 use Rattle.model.proofs.Slots.{word, stands_to}
 use Rattle.tables.proofs.Classes.{step_valid}
@@ -91,7 +92,7 @@ module _ (ts : List Transition) where
       go s low (no a) b = apart s low (λ e. a (omega (arith, e)))
 
 -- the target of transition j, as it is read from its word
-module _ {ws index : List ℕ} (indexes : Indexes ws index) {j w d : ℕ} (inside : j < length (net_of ws).table) (w-is : w ≡ word ws index j)
+module _ {ws : List ℕ} {index : Index} (indexes : Indexes ws index) {j w d : ℕ} (inside : j < length (net_of ws).table) (w-is : w ≡ word ws index j)
     (d-is : d ≡ to_field w) where
   pub target_is : d ≡ (transition (net_of ws) j).to
   target_is = d-is ∙ ap to_field w-is ∙ stands_to (indexes.indexed.places_are j inside)
@@ -102,18 +103,18 @@ module _ {ws index : List ℕ} (indexes : Indexes ws index) {j w d : ℕ} (insid
 -- ---- the list
 
 -- The table after the states from 1 to n were looked at: those with rows were written.
-pub record Naming (index : List ℕ) (targets : List Bool) (n : ℕ) (table : RowTable) : Type 0 where
+pub record Naming (index : Index) (targets : List Bool) (n : ℕ) (table : RowTable) : Type 0 where
   pub few : table.count ≤ n
   pub count_is : table.count ≡ length (named_states table)
   pub states_are : named_states table ≡ listed index targets n
   pub no_totals : NoTotals table
 
-pub naming_none : {index : List ℕ} {targets : List Bool} {table : RowTable} → Empty table → Naming index targets 0 table
+pub naming_none : {index : Index} {targets : List Bool} {table : RowTable} → Empty table → Naming index targets 0 table
 unfolding listed
 naming_none {table = table} h =
     record { few = omega (arith, h.no_rows); count_is = h.no_rows ∙ sym (ap (λ (k : ℕ). length (take k table.states)) h.no_rows); states_are = ap (λ (k : ℕ). take k table.states) h.no_rows; no_totals = h.no_totals }
 
-module _ {index : List ℕ} {targets : List Bool} {n : ℕ} {before : RowTable} (h : Naming index targets n before) where
+module _ {index : Index} {targets : List Bool} {n : ℕ} {before : RowTable} (h : Naming index targets n before) where
   -- state n + 1 is written
   pub naming_more : {after : RowTable} {s : ℕ} → s ≡ suc n → marked index targets s ≡ true → RowAdded s before after → Naming index targets s after
   unfolding listed
@@ -142,7 +143,7 @@ module _ {index : List ℕ} {targets : List Bool} {n : ℕ} {before : RowTable} 
 
 -- ---- they are the definition's
 
-module _ {ws index : List ℕ} (indexes : Indexes ws index) {targets : List Bool} (all : Targets (net_of ws).table (length (net_of ws).table) targets) where
+module _ {ws : List ℕ} {index : Index} (indexes : Indexes ws index) {targets : List Bool} (all : Targets (net_of ws).table (length (net_of ws).table) targets) where
   abbrev net : Net
   net = net_of ws
 

@@ -1,6 +1,7 @@
 -- Which states have rows, as the code finds them: by the index of exits and by marks of the targets. Assumes nothing: these are definitions.
 use Rattle.std.specs.Prelude.{ℕ, zero, suc, ◌≤◌, ◌≡◌, Bool, true, false, not, ◌&&◌, ◌||◌, List, [], ◌∷◌, ◌++◌, length, get_or, eqb}
 use Rattle.word.specs.Model.{Transition, Model}
+use Rattle.model.specs.declared.index.Index.{Index}
 use Rattle.model.specs.Index.{no_transition, exit_count, named_flag}
 use Rattle.tree.specs.Rows.{row_states}
 use Rattle.rows.specs.declared.table.RowTable.{RowTable}
@@ -20,11 +21,11 @@ pub record Targets (ts : List Transition) (j : ℕ) (targets : List Bool) : Type
 
 -- ---- the list
 
-abbrev pub marked : (index : List ℕ) (targets : List Bool) → ℕ → Bool
+abbrev pub marked : (index : Index) (targets : List Bool) → ℕ → Bool
 marked index targets s = not (eqb (named_flag index s) 1) && (eqb (exit_count index s) 0 && get_or targets s false)
 
 -- the states from 1 to n that are marked so, in their order
-unfoldable pub listed : (index : List ℕ) (targets : List Bool) → ℕ → List ℕ
+unfoldable pub listed : (index : Index) (targets : List Bool) → ℕ → List ℕ
 listed index targets zero = []
 listed index targets (suc n) = listed index targets n ++ elim (marked index targets (suc n)) [ true ↦ suc n ∷ [] | false ↦ [] ]
 

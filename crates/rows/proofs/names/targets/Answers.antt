@@ -9,12 +9,12 @@ loop-j-init c = targets_none _
 
 pub bounds-targets-to : goal.bounds-targets-to
 bounds-targets-to c =
-    let inside : c.loop-j.j < length (net_of c.args.words.now).table = omega arith in
-    let h = target_small c.requires.0 inside c.word_of.ensures c.to.ensures.value in omega arith
+    let inside : c.loop-j.j < length (net_of c.args.model.words.now).table = omega arith in
+    let h = target_small c.args.model.indexes inside c.word_of.ensures c.to.ensures.value in omega arith
 
 pub loop-j-preserved : goal.loop-j-preserved
 loop-j-preserved c =
-    let inside : c.loop-j.j < length (net_of c.args.words.now).table = omega arith in
+    let inside : c.loop-j.j < length (net_of c.args.model.words.now).table = omega arith in
     rw add-one
-    (targets_more _ (target_is c.requires.0 inside c.word_of.ensures c.to.ensures.value)
-    (target_small c.requires.0 inside c.word_of.ensures c.to.ensures.value) c.loop-j.invariant)
+    (targets_more _ (target_is c.args.model.indexes inside c.word_of.ensures c.to.ensures.value)
+    (target_small c.args.model.indexes inside c.word_of.ensures c.to.ensures.value) c.loop-j.invariant)

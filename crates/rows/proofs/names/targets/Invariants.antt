@@ -4,4 +4,4 @@ use Rattle.rows.specs.Internal.Names.{Targets}
 use Rattle.rows.proofs.names.targets.Given as goal
 
 abbrev pub invariant-loop-j : goal.invariant-loop-j
-invariant-loop-j l = Targets (net_of l.words).table l.j l.targets
+invariant-loop-j l = Targets (net_of l.model.words.now).table l.j l.targets
