@@ -1,6 +1,7 @@
--- A rounding and whether the other one comes to the same are what the form that tells promises: one law over the direction and the width. Assumes nothing.
+-- What a figure that tells is: an operation rounded one way, and whether the other way comes to the same. One law over the direction and the width. Assumes
+-- nothing.
 use Prim.Native.Nat.{ℕ, suc}
-use mathlib.Core.Path.{◌≡◌, sym, ◌∙◌}
+use mathlib.Core.Path.{◌≡◌, sym, ◌∙◌, ap, ap₂}
 use mathlib.Core.Bool.{Bool, true, ◌&&◌}
 use lib.Dec.{eqb}
 use borrow.Author.Rules.{rules}
@@ -9,7 +10,7 @@ use Rattle.fraction.specs.Fraction.{Fraction}
 use Rattle.figure.specs.declared.Figure.{Figure}
 use Rattle.figure.specs.declared.Direction.{Direction}
 use Rattle.figure.specs.declared.Direction.TheVariants.{Down, Up}
-use Rattle.figure.specs.Losses.{keeps}
+use Rattle.figure.specs.Losses.{keeps, told}
 use Rattle.figure.specs.Internal.Steps.{rounded}
 use Rattle.figure.specs.Internal.Directions.{opposite}
 use Rattle.figure.proofs.Losses.{both_ways, both_agree, agree_keeps}
@@ -30,8 +31,19 @@ module _ (w : ℕ) (x : Fraction) where
   agreed Up e = agree_keeps w x e
   agreed Down e = agree_keeps w x (sym e)
 
-  -- whether the code finds the two roundings to be the same figure is whether nothing is lost
-  pub compared : (to : Direction) {f g : Figure} {r : Bool} → r ≡ (eqb f.digits g.digits && int_eq f.power g.power) → f ≡ rounded to (suc w) x
-      → g ≡ rounded (opposite to) (suc w) x → r ≡ keeps (suc w) x
-  compared to {f} {g} {r} h p q =
-      both_ways r (keeps (suc w) x) (λ e. agreed to (sym p ∙ found f g (sym h ∙ e) ∙ q)) (λ e. h ∙ same_found f g (p ∙ agree to e ∙ sym q))
+  -- An operation that is x rounded, either way: its figure `to` the one side, told by whether the other side comes to the same, and by what `with` adds of
+  -- the operands' marks.
+  pub told_both : (op : Direction → Figure) → ((d : Direction) → op d ≡ rounded d (suc w) x) → (with : Bool → Bool) (to : Direction) {d : Direction}
+      {f g : Figure} {r : Bool} → f ≡ op to → d ≡ opposite to → g ≡ op d → r ≡ (eqb f.digits g.digits && int_eq f.power g.power)
+      → told f (with r) ≡ told (op to) (with (keeps (suc w) x))
+  told_both op is with to {d} {f} {g} {r} p o q h = ap₂ (λ f k. told f (with k)) p mark
+    where
+      one : f ≡ rounded to (suc w) x
+      one = p ∙ is to
+
+      other : g ≡ rounded (opposite to) (suc w) x
+      other = q ∙ ap op o ∙ is (opposite to)
+
+      mark : r ≡ keeps (suc w) x
+      mark = both_ways r (keeps (suc w) x) (λ e. agreed to (sym one ∙ found f g (sym h ∙ e) ∙ other))
+          (λ e. h ∙ same_found f g (one ∙ agree to e ∙ sym other))

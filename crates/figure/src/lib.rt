@@ -28,6 +28,7 @@ mod whole;
 use division::Width;
 pub use generic::Arithmetic;
 
+// kept: its fields are free, and each operation asks for an `Operand`: a caller through C hands over any digits and any power, and `is_figure` is the test.
 #[repr(C)]
 #[derive(Clone, Copy, PartialEq, Eq)]
 pub struct Figure {
@@ -297,6 +298,7 @@ impl Figure {
         ceiling::ceiling(self)
     }
 
+    // kept: no derived order, since zero, held with power 0, is below every other figure.
     pub fn at_or_below(self, other: Figure) -> bool
         requires { IsFigure 9 self × IsFigure 9 other }
         ensures { result ≡ ops.at_or_below self other }

@@ -1,14 +1,13 @@
 -- `minus` of `Rounded` meets its contract: its mark is lost with either operand's, or where the two roundings differ. Assumes nothing.
-use mathlib.Core.Path.{ap₂, ◌∙◌}
 use mathlib.Core.Bool.{◌&&◌}
-use Rattle.figure.specs.Losses.{told, minus_keeps}
+use Rattle.figure.specs.Operations.{minus}
+use Rattle.figure.specs.Losses.{minus_keeps}
 use Rattle.figure.proofs.Directions.{minus_rounded}
-use Rattle.figure.proofs.Tellings.{compared}
+use Rattle.figure.proofs.Tellings.{told_both}
 use Rattle.figure.proofs.generic.RoundedArithmetic.minus.Goals as goal
 
 pub returns : goal.returns
 unfolding minus_keeps
 returns c =
-    ap₂ (λ f k. told f (c.args.self.kept && (c.args.other.kept && k))) c.minus-figure.ensures
-    (compared 8 _ c.args.to c.eq.ensures (c.minus-figure.ensures ∙ minus_rounded _ _ _)
-    ((rw c.opposite.ensures at c.minus-turned.ensures) ∙ minus_rounded _ _ _))
+    told_both 8 _ (λ d. minus d c.args.self.figure c.args.other.figure) (λ d. minus_rounded d c.args.self.figure c.args.other.figure)
+    (λ k. c.args.self.kept && (c.args.other.kept && k)) c.args.to c.minus-figure.ensures c.opposite.ensures c.minus-turned.ensures c.eq.ensures
