@@ -1,5 +1,5 @@
--- The index of exits that reading fills into a lent value, the code's struct `Index`, and what its entries mean. The walk and its tables find a state's exits by it.
--- Assumes nothing: these are definitions.
+-- The index of exits that reading fills into a lent value, the code's struct `Index`, and what its entries mean. The walk and its tables find a
+-- state's exits by it. Assumes nothing: these are definitions.
 use Rattle.std.specs.Prelude.{ℕ, suc, ◌+◌, ◌≤◌, ◌<◌, ◌≡◌, true, false, List, [], ◌∷◌, length, get_or, take, drop, replicate, eqb}
 use lib.Dec.{lit≤}
 use Rattle.word.specs.Model.{Manner, slow, fast, Transition, Net, Model, one_if, is_named, leaves, exits}

@@ -1,7 +1,7 @@
 -- What the functions below the code's `read` promise one another, in the terms of Reading and Faults. No other crate sees these functions, and
 -- `read`'s own promise, in Promise, names nothing of this file. Assumes nothing: these are definitions.
-use Rattle.std.specs.Prelude.{ℕ, zero, suc, ◌+◌, ◌≤◌, ◌<◌, ◌≡◌, ◌≢◌, Bool, true, false, not, ◌&&◌, ◌||◌, ◌⊎◌, List, [], ◌∷◌, length, get_or, drop, leb, eqb, Option, Result}
-use Rattle.std.specs.Prelude.{MatchOption, MatchResult}
+use Rattle.std.specs.Prelude.{ℕ, zero, suc, ◌+◌, ◌≤◌, ◌<◌, ◌≡◌, ◌≢◌, Bool, true, false, not, ◌&&◌, ◌||◌, ◌⊎◌, List, [], ◌∷◌, length, get_or, drop, leb, eqb}
+use Rattle.std.specs.Prelude.{Option, Result, MatchOption, MatchResult}
 use Rattle.word.specs.declared.Refusal.{Refusal}
 use Rattle.word.specs.Model.{Transition, Model, any, one_if, is_named, exits, has_fast, probability_sum}
 use Rattle.word.specs.Words.{kind, from_field}

@@ -25,7 +25,8 @@ pub returns-in_err-ensure : goal.returns-in_err-ensure
 returns-in_err-ensure c =
     let p = err_from_is_err_and c.from_residual.result c.from_residual.ensures.1 in
     rw (p.1, p.2, c.in_err-ensure.ensures.1)
-    (concludes_stuck _ _ _ c.requires c.in_default.ensures c.in_default-lowest_leading_on.ensures (sym c.exit_count-goes_on.ensures.0 ∙ eqb-true _ _ (not-false _ c.in_err-ensure.ensures.0)))
+    (concludes_stuck _ _ _ c.requires c.in_default.ensures c.in_default-lowest_leading_on.ensures
+    (sym c.exit_count-goes_on.ensures.0 ∙ eqb-true _ _ (not-false _ c.in_err-ensure.ensures.0)))
 
 pub returns : goal.returns
 returns c =

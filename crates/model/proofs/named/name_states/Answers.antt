@@ -29,8 +29,8 @@ name-requires c =
 
 pub loop-count-preserved : goal.loop-count-preserved
 loop-count-preserved c =
-    rw (← add_assoc 4 c.loop-count.count 1, c.named_state-last.ensures.value) (name_passes _ _ _ _ _ _ c.loop-count.invariant _ (part_at c.args.words.now 4 c.loop-count.count)
-    (eqb-true _ _ (sym c.is_of.ensures ∙ c.if-not-is_of.false)) _ refl (sym c.in_ok-named.ensures) _
+    rw (← add_assoc 4 c.loop-count.count 1, c.named_state-last.ensures.value) (name_passes _ _ _ _ _ _ c.loop-count.invariant _
+    (part_at c.args.words.now 4 c.loop-count.count) (eqb-true _ _ (sym c.is_of.ensures ∙ c.if-not-is_of.false)) _ refl (sym c.in_ok-named.ensures) _
     (rw c.named_state-last.ensures.value at c.name.ensures))
 
 pub returns : goal.returns
