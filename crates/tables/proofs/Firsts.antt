@@ -1,6 +1,6 @@
 -- A part of the words that begins at a transition: what its words are, and the figures that are read from them. Assumes nothing.
 use Prim.Native.Nat.{ℕ, ◌-◌, ◌<◌}
-use mathlib.Core.Path.{◌≡◌, sym, ap, ◌∙◌}
+use mathlib.Core.Path.{◌≡◌, refl, sym, ap, ◌∙◌}
 use mathlib.Core.Bool.{true, false}
 use mathlib.Core.List.{List}
 use native.Mathlib.Omega.{arith}
@@ -20,6 +20,10 @@ use Rattle.model.proofs.Slots.{fast_at, slow_at, stands_from, stands_inside, sta
 use Rattle.tree.specs.States.{figure_of}
 use Rattle.tree.proofs.Ranges.{quantity_sized}
 use Rattle.tables.specs.Internal.Described.{StandsFirst}
+use Rattle.tables.specs.declared.manner.Manner.{Manner as Coded}
+use Rattle.tables.specs.declared.manner.Manner.TheVariants.{Slow, Fast}
+use Rattle.tables.specs.declared.manner.Spread.{Spread}
+use Rattle.tables.specs.Internal.Manners.{SpreadSized, manner_of}
 use Rattle.tables.specs.Internal.Told.{exact}
 
 -- the words from a place on
@@ -30,31 +34,51 @@ part_at ws place = take (length ws - place) (drop place ws)
 abbrev pub word_from : List ℕ → ℕ → ℕ
 word_from part k = get_or (part_at part k) 0 0
 
--- the figures of a fast exit: mean, deviation and probability
-pub record FastRead (x : Manner) (m d q : Rounded) : Type 0 where
+-- a fast exit and its figures
+pub record FastRead (x : Manner) (e : Spread) : Type 0 where
   pub mean : Quantity
   pub deviation : Quantity
   pub probability : Quantity
   pub manner : x ≡ fast mean deviation probability
-  pub mean_valid : InRange 1 20 mean
-  pub deviation_valid : InRange 0 20 deviation
-  pub probability_valid : InRange 1 12 probability
-  pub mean_is : m ≡ exact (figure_of mean)
-  pub deviation_is : d ≡ exact (figure_of deviation)
-  pub probability_is : q ≡ exact (figure_of probability)
+  pub is : e ≡ record { mean = exact (figure_of mean); deviation = exact (figure_of deviation); probability = exact (figure_of probability) }
 
--- the figure of a slow exit
+-- a slow exit and its figure
 pub record SlowRead (x : Manner) (r : Rounded) : Type 0 where
   pub rate : Quantity
   pub manner : x ≡ slow rate
-  pub valid : InRange 1 20 rate
-  pub rate_is : r ≡ exact (figure_of rate)
+  pub is : r ≡ exact (figure_of rate)
+
+-- ---- by what the code has made of it
+
+pub fast_case : (x : Manner) {e : Spread} → Fast e ≡ manner_of x → FastRead x e
+fast_case (slow r) h = absurd (cc)
+fast_case (fast m d q) h = record { mean = m; deviation = d; probability = q; manner = refl; is = cc }
+
+pub slow_case : (x : Manner) {r : Rounded} → Slow r ≡ manner_of x → SlowRead x r
+slow_case (slow q) h = record { rate = q; manner = refl; is = cc }
+slow_case (fast m d q) h = absurd (cc)
+
+pub spread_sized : {x : Manner} {e : Spread} → ValidManner x → FastRead x e → SpreadSized 40 e
+unfolding ValidManner
+spread_sized v f =
+    let w = rw f.manner at v in
+    rw f.is (record {
+      mean = quantity_sized w.0;
+      deviation = quantity_sized w.1.0;
+      probability = sized-≤ (lit≤ tt) (quantity_sized w.1.1);
+    })
+
+pub rate_sized : {x : Manner} {r : Rounded} → ValidManner x → SlowRead x r → Sized 9 40 r.figure
+unfolding ValidManner
+rate_sized v f = let w = rw f.manner at v in rw f.is (quantity_sized w)
+
+-- ---- in a part of the words
 
 low_coefficient : {a b : ℕ} (w : ℕ) → InRange a b (quantity w) → coefficient_field w < 1000000
 low_coefficient w h = omega (arith, h.high)
 
 module _ {part : List ℕ} (first : StandsFirst part) where
-  first_valid : ValidManner (transition_at part).manner
+  pub first_valid : ValidManner (transition_at part).manner
   first_valid = rw first.stands.reads first.valid
 
   -- whether it is fast, by its word
@@ -85,20 +109,10 @@ module _ {part : List ℕ} (first : StandsFirst part) where
     pub fast_3 : coefficient_field (word_from part 3) < 1000000
     fast_3 = rw (part_word part 3) (low_coefficient (get_or part 3 0) fast_valid.1.1)
 
-    pub fast_read : {m d q : Rounded} → m ≡ exact (figure_of (quantity (word_from part 1))) → d ≡ exact (figure_of (quantity (word_from part 2)))
-        → q ≡ exact (figure_of (quantity (word_from part 3))) → FastRead (transition_at part).manner m d q
-    fast_read a b c = record {
-      mean = quantity (get_or part 1 0);
-      deviation = quantity (get_or part 2 0);
-      probability = quantity (get_or part 3 0);
-      manner = fast_at part test;
-      mean_valid = fast_valid.0;
-      deviation_valid = fast_valid.1.0;
-      probability_valid = fast_valid.1.1;
-      mean_is = rw (part_word part 1) at a;
-      deviation_is = rw (part_word part 2) at b;
-      probability_is = rw (part_word part 3) at c;
-    }
+    pub fast_is : {m d q : Rounded} → m ≡ exact (figure_of (quantity (word_from part 1))) → d ≡ exact (figure_of (quantity (word_from part 2)))
+        → q ≡ exact (figure_of (quantity (word_from part 3)))
+        → ◌≡◌ {A = Coded} (Fast (record { mean = m; deviation = d; probability = q })) (manner_of (transition_at part).manner)
+    fast_is a b c = rw (fast_at part test, a, b, c, part_word part 1, part_word part 2, part_word part 3)
 
   module _ (test : eqb (kind (get_or part 0 0)) 7 ≡ false) where
     slow_valid : InRange 1 20 (quantity (get_or part 1 0))
@@ -108,20 +122,6 @@ module _ {part : List ℕ} (first : StandsFirst part) where
     pub slow_1 : coefficient_field (word_from part 1) < 1000000
     slow_1 = rw (part_word part 1) (low_coefficient (get_or part 1 0) slow_valid)
 
-    pub slow_read : {r : Rounded} → r ≡ exact (figure_of (quantity (word_from part 1))) → SlowRead (transition_at part).manner r
-    slow_read a = record { rate = quantity (get_or part 1 0); manner = slow_at part test; valid = slow_valid; rate_is = rw (part_word part 1) at a }
-
--- ---- they are in range
-
-module _ {x : Manner} {m d q : Rounded} (f : FastRead x m d q) where
-  pub mean_sized : Sized 9 40 m.figure
-  mean_sized = rw f.mean_is (quantity_sized f.mean_valid)
-
-  pub deviation_sized : Sized 9 40 d.figure
-  deviation_sized = rw f.deviation_is (quantity_sized f.deviation_valid)
-
-  pub probability_sized : Sized 9 40 q.figure
-  probability_sized = rw f.probability_is (sized-≤ (lit≤ tt) (quantity_sized f.probability_valid))
-
-pub rate_sized : {x : Manner} {r : Rounded} → SlowRead x r → Sized 9 40 r.figure
-rate_sized f = rw f.rate_is (quantity_sized f.valid)
+    pub slow_is : {r : Rounded} → r ≡ exact (figure_of (quantity (word_from part 1)))
+        → ◌≡◌ {A = Coded} (Slow r) (manner_of (transition_at part).manner)
+    slow_is a = rw (slow_at part test, a, part_word part 1)

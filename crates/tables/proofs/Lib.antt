@@ -11,5 +11,6 @@ pub mod Classes
 pub mod StatesFilled
 pub mod StepsFilled
 pub mod StepPlaces
+pub mod StepRanges
 pub mod TransitionCount
 pub mod Summaries

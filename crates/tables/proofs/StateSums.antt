@@ -21,6 +21,7 @@ use Rattle.tree.specs.States.{figure_of, second_moment, sum_over, add_rate, add_
 use Rattle.tree.specs.Marks.{second_moment_kept, sum_kept, rate_kept_by, mean_up_kept_by, mean_down_kept_by, moment_kept_by}
 use Rattle.tree.specs.Marks.{rate_sum_kept, mean_up_kept, mean_down_kept, moment_sum_kept}
 use Rattle.tree.proofs.Ranges.{none_sized, add_rate_sized, add_mean_up_sized, add_mean_down_sized, add_moment_sized}
+use Rattle.tables.specs.declared.manner.Spread.{Spread}
 use Rattle.tables.specs.declared.states.Sums.{Sums}
 use Rattle.tables.specs.Internal.Told.{times, plus, moment_of, add_told}
 use Rattle.tables.specs.Internal.Sums.{SumsSized, add_exit, sums}
@@ -41,21 +42,21 @@ regrouped : (a b c d : Bool) (f : Figure) → told f (a && ((b && c) && d)) ≡ 
 regrouped a b c d f = ap (λ (k : Bool). told f (a && k)) (and_assoc b c d)
 
 module _ (s : Sums) {x : Manner} where
-  pub with_fast : {m d q a b w v mean low moment : Rounded} → FastRead x m d q → a ≡ times Up q m → mean ≡ plus Up s.up a → b ≡ times Down q m
-      → low ≡ plus Down s.down b → w ≡ moment_of m d → v ≡ times Up q w → moment ≡ plus Up s.moment v
-      → ◌≡◌ {A = Sums} (record { rate = s.rate; up = mean; down = low; moment = moment }) (add_exit s x)
+  pub with_fast : {e : Spread} {a b w v mean low moment : Rounded} → FastRead x e → a ≡ times Up e.probability e.mean → mean ≡ plus Up s.up a
+      → b ≡ times Down e.probability e.mean → low ≡ plus Down s.down b → w ≡ moment_of e.mean e.deviation → v ≡ times Up e.probability w
+      → moment ≡ plus Up s.moment v → ◌≡◌ {A = Sums} (record { rate = s.rate; up = mean; down = low; moment = moment }) (add_exit s x)
   unfolding add_exit add_told moment_of second_moment second_moment_kept
   with_fast f ea em eb ef ew ev eo =
       let share = figure_of f.probability in
       let square = second_moment f.mean f.deviation in
-      rw f.manner (same_sums (as_it_was s.rate) (rw (em, ea, f.mean_is, f.probability_is)) (rw (ef, eb, f.mean_is, f.probability_is))
-      (rw (eo, ev, ew, f.mean_is, f.deviation_is, f.probability_is) (regrouped s.moment.kept (second_moment_kept f.mean f.deviation)
-      (times_keeps share square) (plus_keeps s.moment.figure (times_up share square)) (plus_up s.moment.figure (times_up share square)))))
+      rw f.manner (same_sums (as_it_was s.rate) (rw (em, ea, f.is)) (rw (ef, eb, f.is)) (rw (eo, ev, ew, f.is) (regrouped s.moment.kept
+      (second_moment_kept f.mean f.deviation) (times_keeps share square) (plus_keeps s.moment.figure (times_up share square))
+      (plus_up s.moment.figure (times_up share square)))))
 
   pub with_slow : {r rate : Rounded} → SlowRead x r → rate ≡ plus Up s.rate r
       → ◌≡◌ {A = Sums} (record { rate = rate; up = s.up; down = s.down; moment = s.moment }) (add_exit s x)
   unfolding add_exit add_told
-  with_slow f e = rw f.manner (same_sums (rw (e, f.rate_is)) (as_it_was s.up) (as_it_was s.down) (as_it_was s.moment))
+  with_slow f e = rw f.manner (same_sums (rw (e, f.is)) (as_it_was s.up) (as_it_was s.down) (as_it_was s.moment))
 
 add_exit_sized : {n : ℕ} {s : Sums} (x : Manner) → 180 ≤ n → ValidManner x → SumsSized n s → SumsSized (n + 20) (add_exit s x)
 unfolding add_exit add_told

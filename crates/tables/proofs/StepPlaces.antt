@@ -4,30 +4,30 @@ use mathlib.Core.Path.{◌≡◌, refl, sym, ap, ap₂, ◌∙◌}
 use mathlib.Core.Bool.{Bool, true, false}
 use mathlib.Core.List.{List}
 use native.Mathlib.Omega.{arith}
-use lib.Dec.{eqb}
 use lib.ListN.{length, get_or}
 use Rattle.figure.specs.declared.Figure.{Figure}
 use Rattle.figure.specs.declared.Rounded.{Rounded}
 use Rattle.figure.specs.Rounding.{none}
 use Rattle.figure.specs.Operands.{Sized}
 use Rattle.figure.specs.Losses.{told}
-use Rattle.word.specs.Model.{Transition, is_fast, exits, has_fast}
-use Rattle.word.specs.Words.{kind, from_field, coefficient_field, quantity}
+use Rattle.word.specs.Model.{Transition, exits, has_fast}
+use Rattle.word.specs.Words.{from_field}
 use Rattle.model.specs.declared.index.Index.{Index}
 use Rattle.model.specs.Index.{transition_at, transition}
 use Rattle.model.specs.Internal.Valid.{ValidTransition}
-use Rattle.tree.specs.States.{figure_of, rate_sum, mean_down, moment_sum}
+use Rattle.tree.specs.States.{rate_sum, mean_down, moment_sum}
 use Rattle.tree.specs.Marks.{rate_sum_kept, mean_down_kept, moment_sum_kept}
 use Rattle.tree.proofs.Positive.{Above, mean_down_zero_iff}
 use Rattle.tree.proofs.Divisors.{time_above}
 use Rattle.tree.proofs.Ranges.{rate_sum_sized, mean_down_sized, moment_sum_sized, mission_time_sized}
+use Rattle.tables.specs.declared.manner.Spread.{Spread}
 use Rattle.tables.specs.declared.steps.Step.{Step}
 use Rattle.tables.specs.declared.table.Table.{Table}
 use Rattle.tables.specs.Internal.Described.{Indexes, StandsFirst, described, net_of}
 use Rattle.tables.specs.Internal.Tables.{rate_sum_in, mean_down_in, moment_sum_in, rate_sum_kept_in, mean_down_kept_in, moment_sum_kept_in}
 use Rattle.tables.specs.Internal.Told.{exact}
 use Rattle.tables.specs.Internal.Steps.{StepReady, class2_step_of, class3_step_of, step_of}
-use Rattle.tables.proofs.Firsts.{word_from, first_fast, first_from, slow_1, slow_read}
+use Rattle.tables.proofs.Firsts.{FastRead, SlowRead, first_from}
 use Rattle.tables.proofs.Classes.{step_valid}
 use Rattle.tables.proofs.Sections.{same_figure}
 use Rattle.tables.proofs.StepLaws.{rate_told, mean_told, moment_told, fast_step, slow_step, lone_step}
@@ -55,22 +55,6 @@ pub record Leaves (ws : List ℕ) (table : Table) (t : Transition) (s : ℕ) : T
   pub mean : Entry (mean_held table s) (mean_told (net_of ws) t.from)
   pub moment : Entry (moment_held table s) (moment_told (net_of ws) t.from)
 
--- a part of the words begins at a valid transition, the one with the index j, with the word w
-pub record Begun (ws : List ℕ) (j : ℕ) (part : List ℕ) (w : ℕ) : Type 0 where
-  pub first : StandsFirst part
-  pub reads : transition_at part ≡ transition (net_of ws) j
-  pub word : w ≡ get_or part 0 0
-
-module _ {ws : List ℕ} {j : ℕ} {part : List ℕ} {w : ℕ} (b : Begun ws j part w) where
-  begun_fast : eqb (kind (get_or part 0 0)) 7 ≡ eqb (kind w) 7
-  begun_fast = ap (λ (x : ℕ). eqb (kind x) 7) (sym b.word)
-
-  pub begun_manner : {k : Bool} → k ≡ eqb (kind w) 7 → is_fast (transition_at part).manner ≡ k
-  begun_manner e = first_fast b.first ∙ begun_fast ∙ sym e
-
-  pub begun_low : eqb (kind w) 7 ≡ false → coefficient_field (word_from part 1) < 1000000
-  begun_low test = slow_1 b.first (begun_fast ∙ test)
-
 module _ {ws : List ℕ} {index : Index} {table : Table} {time : Rounded} (indexes : Indexes ws index) (h : StepReady ws time table) where
   pub time_in_range : Sized 9 40 time.figure
   time_in_range = rw h.time_is (mission_time_sized indexes.valid)
@@ -78,9 +62,10 @@ module _ {ws : List ℕ} {index : Index} {table : Table} {time : Rounded} (index
   pub time_positive : Above time.figure
   time_positive = rw h.time_is (time_above indexes.valid)
 
-  module _ {j : ℕ} (inside : j < length (net_of ws).table) {part : List ℕ} {w s : ℕ} (b : Begun ws j part w) (s-is : s ≡ from_field w) where
+  module _ {j : ℕ} (inside : j < length (net_of ws).table) {part : List ℕ} (first : StandsFirst part)
+      (reads : transition_at part ≡ transition (net_of ws) j) {w s : ℕ} (w-is : w ≡ get_or part 0 0) (s-is : s ≡ from_field w) where
     origin_is : s ≡ (transition (net_of ws) j).from
-    origin_is = s-is ∙ ap from_field b.word ∙ first_from b.first ∙ ap (λ (u : Transition). u.from) b.reads
+    origin_is = s-is ∙ ap from_field w-is ∙ first_from first ∙ ap (λ (u : Transition). u.from) reads
 
     valid_step : ValidTransition (described ws).states (transition (net_of ws) j)
     valid_step = step_valid indexes.valid inside
@@ -108,24 +93,13 @@ module _ {ws : List ℕ} {index : Index} {table : Table} {time : Rounded} (index
           h.states.moment_sums_kept (moment_sum_sized indexes.valid _);
     }
 
-  -- ---- what was worked out of a part of the words that begins at a transition is its step
+  -- ---- what was worked out of a transition's manner is its step
 
-  module _ {j : ℕ} {part : List ℕ} {w s : ℕ} (b : Begun ws j part w) (l : Leaves ws table (transition (net_of ws) j) s) {rate : Rounded}
-      (rate-at : rate ≡ rate_held table s) where
-    abbrev t : Transition
-    t = transition (net_of ws) j
+  module _ {t : Transition} {s : ℕ} (l : Leaves ws table t s) {rate : Rounded} (rate-at : rate ≡ rate_held table s) where
+    pub found_fast : {e : Spread} → FastRead t.manner e → {x : Step} → x ≡ class2_step_of rate time e → x ≡ step_of (net_of ws) t
+    found_fast f e = e ∙ rw (rate-at, l.rate.is, h.time_is) (fast_step (net_of ws) t f)
 
-    fast_is : is_fast t.manner ≡ eqb (kind w) 7
-    fast_is = ap (λ (u : Transition). is_fast u.manner) (sym b.reads) ∙ first_fast b.first ∙ ap (λ (x : ℕ). eqb (kind x) 7) (sym b.word)
-
-    manner_is : (transition_at part).manner ≡ t.manner
-    manner_is = ap (λ (u : Transition). u.manner) b.reads
-
-    pub found_fast : eqb (kind w) 7 ≡ true → {x : Step} → x ≡ class2_step_of rate time (transition_at part).manner
-        → x ≡ step_of (net_of ws) t
-    found_fast test e = e ∙ rw (rate-at, l.rate.is, h.time_is, manner_is) (fast_step (net_of ws) t (fast_is ∙ test))
-
-    module _ (test : eqb (kind w) 7 ≡ false) {mean : Rounded} (mean-at : mean ≡ mean_held table s) where
+    module _ {share : Rounded} (f : SlowRead t.manner share) {mean : Rounded} (mean-at : mean ≡ mean_held table s) where
       mean_is : mean ≡ mean_told (net_of ws) t.from
       mean_is = mean-at ∙ l.mean.is
 
@@ -141,12 +115,11 @@ module _ {ws : List ℕ} {index : Index} {table : Table} {time : Rounded} (index
           go true zero = refl
           go false zero = absurd (n (ap (λ (f : Rounded). f.figure.digits) mean_is ∙ zero refl))
 
-      pub found_lone : mean.figure.digits ≡ 0 → {r f : Rounded} → r ≡ exact (figure_of (quantity (word_from part 1))) → f ≡ exact none
-          → ◌≡◌ {A = Step} (record { share = r; grains = 0; grains_kept = true; factor = f }) (step_of (net_of ws) t)
-      found_lone z e n = lone_step (net_of ws) t (fast_is ∙ test) (no_fast z) (rw manner_is at (slow_read b.first (begun_fast b ∙ test) e)) n
+      pub found_lone : mean.figure.digits ≡ 0 → {factor : Rounded} → factor ≡ exact none
+          → ◌≡◌ {A = Step} (record { share = share; grains = 0; grains_kept = true; factor = factor }) (step_of (net_of ws) t)
+      found_lone z n = lone_step (net_of ws) t (no_fast z) f n
 
       pub found_slow : (mean.figure.digits ≡ 0 → ⊥) → {moment : Rounded} → moment ≡ moment_held table s → {x : Step}
-          → x ≡ class3_step_of rate mean moment time (transition_at part).manner → x ≡ step_of (net_of ws) t
+          → x ≡ class3_step_of rate mean moment time share → x ≡ step_of (net_of ws) t
       found_slow n moment-at e =
-          e ∙ rw (rate-at, l.rate.is, mean_is, moment-at, l.moment.is, h.time_is, manner_is)
-          (slow_step (net_of ws) t (fast_is ∙ test) (some_fast n))
+          e ∙ rw (rate-at, l.rate.is, mean_is, moment-at, l.moment.is, h.time_is) (slow_step (net_of ws) t (some_fast n) f)

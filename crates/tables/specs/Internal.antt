@@ -1,6 +1,7 @@
 pub mod Described
 pub mod Facts
 pub mod Told
+pub mod Manners
 pub mod Tables
 pub mod Sums
 pub mod Steps

@@ -1,12 +1,11 @@
 // The figures of the quantities that stand in the words.
 ghost use Rattle.std.specs.Prelude.{◌≡◌, true, ◌<◌, ◌≤◌, get_or};
-ghost use Rattle.figure.specs.Operands.{Sized};
 ghost use Rattle.figure.specs.Operations.{of_whole};
 ghost use Rattle.word.specs.Words.{coefficient_field, quantity};
 ghost use Rattle.tree.specs.States as states;
-ghost use Rattle.tables.specs.Internal.Told.{exact, moment_of};
+ghost use Rattle.tables.specs.Internal.Told.{exact};
 
-use figure::{Arithmetic, Direction, Figure, Rounded};
+use figure::{Arithmetic, Figure, Rounded};
 use word::Quantity;
 use word::fields::quantity_at;
 
@@ -31,13 +30,4 @@ pub(crate) fn whole(n: u64) -> Rounded
     ensures { result ≡ exact (of_whole n) }
 {
     Rounded::exact(Figure::of_whole(n))
-}
-
-// M = m² + d².
-pub(crate) fn second_moment(m: Rounded, d: Rounded) -> Rounded
-    requires { Sized 9 1000 m.figure × Sized 9 1000 d.figure }
-    ensures { result ≡ moment_of m d }
-{
-    let square = m.times(m, Direction::Up);
-    square.plus(d.times(d, Direction::Up), Direction::Up)
 }

@@ -19,6 +19,7 @@ pub mod class;
 pub mod figures;
 mod grains;
 pub mod indexed;
+mod manner;
 pub mod pack;
 mod states;
 mod steps;

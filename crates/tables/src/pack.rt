@@ -6,7 +6,19 @@ ghost use Rattle.tables.specs.Internal.Tables.{counted, marked, mark_of, told_of
 
 use figure::{Figure, Rounded};
 
+// Where the power begins, how many there are, and where the mark is.
+const POWER: u64 = 1 << 30;
+
+const POWERS: u64 = 1 << 21;
+
+const MARK: u64 = 1 << 51;
+
+// What raises a power above 0.
+const RAISED: i32 = 1 << 20;
+
 // A figure, or a number of grains, with its mark: whether no operation that it rests on lost anything.
+// kept: 64 bits and no struct of digits, power and mark: the table stands on the stack of a library that allocates nothing, and would be three times
+// as large.
 #[derive(Clone, Copy)]
 pub struct Packed {
     bits: u64,
@@ -22,7 +34,7 @@ impl Packed {
     {
         let f = x.figure;
         Packed {
-            bits: f.digits + raised(f.power) * 1_073_741_824 + mark(x.kept),
+            bits: f.digits + raised(f.power) * POWER + mark(x.kept),
         }
     }
 
@@ -39,8 +51,8 @@ impl Packed {
     pub fn figure(self) -> Figure
         ensures { result ≡ unpacked self }
     {
-        let digits = self.bits % 1_073_741_824;
-        let power = lowered(self.bits / 1_073_741_824 % 2_097_152);
+        let digits = self.bits % POWER;
+        let power = lowered(self.bits / POWER % POWERS);
         Figure { digits, power }
     }
 
@@ -48,14 +60,14 @@ impl Packed {
     pub fn count(self) -> u64
         ensures { result ≡ counted self }
     {
-        self.bits % 1_073_741_824
+        self.bits % POWER
     }
 
     // Whether it has the mark.
     pub fn is_kept(self) -> bool
         ensures { result ≡ marked self }
     {
-        self.bits / 2_251_799_813_685_248 == 1
+        self.bits / MARK == 1
     }
 
     // The figure with its mark.
@@ -73,7 +85,7 @@ impl Packed {
 fn mark(kept: bool) -> u64
     ensures { result ≡ mark_of kept }
 {
-    if kept { 2_251_799_813_685_248 } else { 0 }
+    u64::from(kept) * MARK
 }
 
 // Whether both lost nothing.
@@ -84,17 +96,17 @@ pub fn both(a: bool, b: bool) -> bool
 }
 
 // A power above 0.
-pub fn raised(p: i32) -> u64
+fn raised(p: i32) -> u64
     requires { mag p ≤ 100000 }
     ensures { pos result ≡ p +ℤ pos 1048576 }
 {
-    (p + 1_048_576) as u64
+    (p + RAISED) as u64
 }
 
 // A raised power, set back.
-pub fn lowered(k: u64) -> i32
+fn lowered(k: u64) -> i32
     requires { k < 2097152 }
     ensures { result ≡ pos k -ℤ pos 1048576 }
 {
-    (k as i32) - 1_048_576
+    (k as i32) - RAISED
 }

@@ -5,12 +5,11 @@ ghost use Rattle.tables.specs.Internal.Described.{StandsFirst, described, net_of
 ghost use Rattle.tables.specs.Internal.Tables.{StatesHold};
 ghost use Rattle.tables.specs.Internal.Sums.{SumsPacked, SumsSized, add_exit, sums};
 
-use crate::figures::{figure_at, second_moment};
 use crate::indexed::Indexed;
+use crate::manner::Manner;
 use crate::pack::Packed;
 use crate::table::{StateEntry, Table};
 use figure::{Arithmetic, Direction, Figure, Rounded};
-use word::fields::is_fast;
 
 // E, h rounded up, h rounded down (h') and H of a state, each with its mark.
 #[derive(Clone, Copy)]
@@ -27,23 +26,26 @@ impl Sums {
         requires { StandsFirst part.now × SumsSized 10000 self }
         ensures { result ≡ add_exit self (transition_at part.now).manner }
     {
-        if is_fast(part[0]) {
-            let m = figure_at(&part[1..]);
-            let d = figure_at(&part[2..]);
-            let q = figure_at(&part[3..]);
-            let up = self.up.plus(q.times(m, Direction::Up), Direction::Up);
-            let down = self.down.plus(q.times(m, Direction::Down), Direction::Down);
-            let product = q.times(second_moment(m, d), Direction::Up);
-            let moment = self.moment.plus(product, Direction::Up);
-            return Sums {
-                up,
-                down,
-                moment,
+        match Manner::at(part) {
+            Manner::Slow(rate) => Sums {
+                rate: self.rate.plus(rate, Direction::Up),
                 ..self
-            };
+            },
+            Manner::Fast(exit) => {
+                let q = exit.probability;
+                let m = exit.mean;
+                let up = self.up.plus(q.times(m, Direction::Up), Direction::Up);
+                let down = self.down.plus(q.times(m, Direction::Down), Direction::Down);
+                let product = q.times(exit.second_moment(), Direction::Up);
+                let moment = self.moment.plus(product, Direction::Up);
+                Sums {
+                    up,
+                    down,
+                    moment,
+                    ..self
+                }
+            }
         }
-        let rate = self.rate.plus(figure_at(&part[1..]), Direction::Up);
-        Sums { rate, ..self }
     }
 
     // As the table holds them.

@@ -1,20 +1,21 @@
 // What depends on a transition alone: its share, its factor in a lower and its grains, with their marks, once for each transition.
-ghost use Rattle.std.specs.Prelude.{◌≡◌, true, false, ◌<◌, ◌≤◌, length};
+ghost use Rattle.std.specs.Prelude.{◌≡◌, ◌<◌, ◌≤◌, length};
 ghost use Rattle.figure.specs.Operands.{Sized};
-ghost use Rattle.word.specs.Model.{is_fast};
-ghost use Rattle.model.specs.Index.{transition, transition_at};
-ghost use Rattle.tables.specs.Internal.Described.{StandsFirst, net_of};
+ghost use Rattle.model.specs.Index.{transition};
+ghost use Rattle.tables.specs.Internal.Described.{net_of};
+ghost use Rattle.tables.specs.Internal.Manners.{SpreadSized};
 ghost use Rattle.tables.specs.Internal.Tables.{Tabled};
 ghost use Rattle.tables.specs.Internal.Steps as by;
 ghost use Rattle.tables.specs.Internal.Steps.{StepPacked, StepReady, StepSized};
 
-use crate::figures::{figure_at, second_moment, whole};
+use crate::figures::whole;
 use crate::grains::{Power, least};
 use crate::indexed::Indexed;
+use crate::manner::{Manner, Spread};
 use crate::pack::Packed;
 use crate::table::{StepEntry, Table};
 use figure::{Arithmetic, Direction, Figure, Rounded};
-use word::fields::{from, is_fast, word_at};
+use word::fields::{from, word_at};
 
 // An exit's rate or probability, its grains with their mark, and its factor in a lower with its own.
 #[derive(Clone, Copy)]
@@ -93,48 +94,40 @@ fn factor_of(share: Rounded, all: Rounded, loss: Rounded) -> Rounded
     share.times(all.minus(loss, Direction::Down), Direction::Down)
 }
 
-// Class 2: a fast exit of a state whose E is `rate`; part begins at the transition's word.
-fn class2_step(part: &[u32], rate: Rounded, time: Rounded) -> Step
-    requires stands_first { StandsFirst part.now × (is_fast (transition_at part.now).manner ≡ true) }
-    requires sized { Sized 9 500 rate.figure × Sized 9 40 time.figure × (0 < time.figure.digits) }
-    ensures { result ≡ by.class2_step_of rate time (transition_at part.now).manner }
+// Class 2: a fast exit of a state whose E is `rate`.
+fn class2_step(exit: Spread, rate: Rounded, time: Rounded) -> Step
+    requires { SpreadSized 40 exit × Sized 9 500 rate.figure × Sized 9 40 time.figure × (0 < time.figure.digits) }
+    ensures { result ≡ by.class2_step_of rate time exit }
 {
-    let m = figure_at(&part[1..]);
-    let d = figure_at(&part[2..]);
-    let q = figure_at(&part[3..]);
-    let moment = second_moment(m, d);
+    let moment = exit.second_moment();
     let time2 = time.times(time, Direction::Down);
     let quotient = class2_quotient(moment, time2);
     let goal = quotient.figure;
     let n = least(Power::Cube, goal.times_ten(18));
-    let y = class2_loss(rate, m, moment, time2, n);
-    let factor = factor_of(q, whole(1), y);
+    let y = class2_loss(rate, exit.mean, moment, time2, n);
     Step {
-        share: q,
+        share: exit.probability,
         grains: n,
         grains_kept: quotient.kept,
-        factor,
+        factor: factor_of(exit.probability, whole(1), y),
     }
 }
 
 // Class 3: a slow exit of a state with E, h' and H.
-fn class3_step(part: &[u32], rate: Rounded, mean: Rounded, moment: Rounded, time: Rounded) -> Step
-    requires stands_first { StandsFirst part.now × (is_fast (transition_at part.now).manner ≡ false) }
-    requires sized { Sized 9 500 rate.figure × Sized 9 500 mean.figure × Sized 9 500 moment.figure × Sized 9 40 time.figure }
+fn class3_step(share: Rounded, rate: Rounded, mean: Rounded, moment: Rounded, time: Rounded) -> Step
+    requires sized { Sized 9 40 share.figure × Sized 9 500 rate.figure × Sized 9 500 mean.figure × Sized 9 500 moment.figure × Sized 9 40 time.figure }
     requires digits_nonzero { (0 < mean.figure.digits) × (0 < time.figure.digits) }
-    ensures { result ≡ by.class3_step_of rate mean moment time (transition_at part.now).manner }
+    ensures { result ≡ by.class3_step_of rate mean moment time share }
 {
-    let share = figure_at(&part[1..]);
     let quotient = class3_quotient(moment, mean, time);
     let goal = quotient.figure;
     let n = least(Power::Square, goal.times_ten(12));
     let y = class3_loss(rate, moment, time, n);
-    let factor = factor_of(share, mean, y);
     Step {
         share,
         grains: n,
         grains_kept: quotient.kept,
-        factor,
+        factor: factor_of(share, mean, y),
     }
 }
 
@@ -144,22 +137,23 @@ fn step_at(model: Indexed, j: usize, time: Rounded, table: &Table) -> Step
     ensures { result ≡ by.step_of (net_of model.entry.words.now) (transition (net_of model.entry.words.now) j) }
 {
     let part = model.part(j);
-    let w = word_at(part);
-    let state = table.states[from(w)];
+    let state = table.states[from(word_at(part))];
     let rate = state.rate.rounded();
-    if is_fast(w) {
-        return class2_step(part, rate, time);
+    match Manner::at(part) {
+        Manner::Fast(exit) => class2_step(exit, rate, time),
+        Manner::Slow(share) => {
+            let mean = state.mean_down.rounded();
+            if mean.figure.digits == 0 {
+                return Step {
+                    share,
+                    grains: 0,
+                    grains_kept: true,
+                    factor: Rounded::exact(Figure::zero()),
+                };
+            }
+            class3_step(share, rate, mean, state.moment.rounded(), time)
+        }
     }
-    let mean = state.mean_down.rounded();
-    if mean.figure.digits == 0 {
-        return Step {
-            share: figure_at(&part[1..]),
-            grains: 0,
-            grains_kept: true,
-            factor: Rounded::exact(Figure::zero()),
-        };
-    }
-    class3_step(part, rate, mean, state.moment.rounded(), time)
 }
 
 // The steps of the first `count` transitions, put into the table beside the sums of the states.

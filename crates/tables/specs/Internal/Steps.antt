@@ -1,19 +1,19 @@
 -- The share, the grains and the lower factor of a step, with their marks, of its state's sums and the mission time as figures. Laws say that of a net's own sums they
 -- are the net's. No public contract cites this page. Assumes nothing: these are definitions.
-use Rattle.std.specs.Prelude.{ℕ, ◌^◌, ◌≤◌, ◌≡◌, true, List, [], pos}
+use Rattle.std.specs.Prelude.{ℕ, ◌^◌, ◌≤◌, ◌≡◌, List, [], pos}
 use Rattle.figure.specs.declared.Direction.TheVariants.{Down, Up}
 use Rattle.figure.specs.declared.Rounded.{Rounded}
-use Rattle.figure.specs.Rounding.{none}
 use Rattle.figure.specs.Operands.{Operand}
 use Rattle.figure.specs.Operations as ops
 use Rattle.figure.specs.Operations.{of_whole}
 use Rattle.figure.specs.Losses.{told}
-use Rattle.word.specs.Model.{Manner, slow, fast, Transition, Net}
+use Rattle.word.specs.Model.{Transition, Net}
 use Rattle.tree.specs.Paths.{class}
 use Rattle.tree.specs.Marks.{grains_kept}
-use Rattle.tree.specs.States.{figure_of, mission_time}
+use Rattle.tree.specs.States.{mission_time}
 use Rattle.tree.specs.Upper.{share}
 use Rattle.tree.specs.Grains.{least, grains}
+use Rattle.tables.specs.declared.manner.Spread.{Spread}
 use Rattle.tables.specs.declared.steps.Step.{Step}
 use Rattle.tables.specs.declared.table.StepEntry.{StepEntry}
 use Rattle.tables.specs.declared.table.Table.{Table}
@@ -44,31 +44,25 @@ unfoldable pub factor_of : Rounded → Rounded → Rounded → Rounded
 factor_of share all loss = times Down share (minus Down all loss)
 
 -- class 2, of E and T
-unfoldable pub class2_step_of : Rounded → Rounded → Manner → Step
-class2_step_of rate time (slow r) = record { share = exact (figure_of r); grains = 0; grains_kept = true; factor = exact none }
-class2_step_of rate time (fast m d q) =
-    let moment = moment_of (exact (figure_of m)) (exact (figure_of d)) in
+unfoldable pub class2_step_of : Rounded → Rounded → Spread → Step
+class2_step_of rate time e =
+    let moment = moment_of e.mean e.deviation in
     let time2 = times Down time time in
     let quotient = class2_quotient_of moment time2 in
     let n = least 3 (ops.times_ten quotient.figure (pos 18)) in
     record {
-      share = exact (figure_of q);
+      share = e.probability;
       grains = n;
       grains_kept = quotient.kept;
-      factor = factor_of (exact (figure_of q)) (exact (of_whole 1)) (class2_loss_of rate (exact (figure_of m)) moment time2 n);
+      factor = factor_of e.probability (exact (of_whole 1)) (class2_loss_of rate e.mean moment time2 n);
     }
 
 -- class 3, of E, h', H and T
-unfoldable pub class3_step_of : Rounded → Rounded → Rounded → Rounded → Manner → Step
-class3_step_of rate mean moment time x =
+unfoldable pub class3_step_of : Rounded → Rounded → Rounded → Rounded → Rounded → Step
+class3_step_of rate mean moment time share =
     let quotient = class3_quotient_of moment mean time in
     let n = least 2 (ops.times_ten quotient.figure (pos 12)) in
-    record {
-      share = exact (share x);
-      grains = n;
-      grains_kept = quotient.kept;
-      factor = factor_of (exact (share x)) mean (class3_loss_of rate moment time n);
-    }
+    record { share = share; grains = n; grains_kept = quotient.kept; factor = factor_of share mean (class3_loss_of rate moment time n) }
 
 -- a transition of a net
 unfoldable pub step_of : Net → Transition → Step
