@@ -45,14 +45,14 @@ module _ (net : Net) (t : Transition) (slow_step : is_slow (class net t) ≡ tru
   slow_stem p leaves = rw (slow_class_is, slow_grains_is, ← leaves)
 
 -- what is kept, once a slow exit's stem was worked out
-pub cached_some : {net : Net} {p : Path} {s : ℕ} {c : Option Stem} → c ≡ stem_by net p (slow_class net s) (slow_grains net s) s → AnyStemSized c
+pub cached_some : {net : Net} {p : Path} {s : ℕ} {c : Option (Stem Figure)} → c ≡ stem_by net p (slow_class net s) (slow_grains net s) s → AnyStemSized c
     → Cached net p s (record { slow = Some c })
 cached_some {c = c} is size = record {
-  stem_is = λ (k : Option Stem) (e : Some c ≡ Some k). let same : c ≡ k = cc in sym same ∙ is;
-  sized = λ (k : Option Stem) (e : Some c ≡ Some k). let same : c ≡ k = cc in rw same at size;
+  stem_is = λ (k : Option (Stem Figure)) (e : Some c ≡ Some k). let same : c ≡ k = cc in sym same ∙ is;
+  sized = λ (k : Option (Stem Figure)) (e : Some c ≡ Some k). let same : c ≡ k = cc in rw same at size;
 }
 
-module _ {l : Lent} {time : Figure} {path : List ℕ} {tip : Tip} {exit : Exit} (last : LastStep l time path tip exit) where
+module _ {l : Lent} {path : List ℕ} {tip : Tip} {exit : Exit} (last : LastStep l path tip exit) where
   -- an exit that the code finds slow has the stem of all slow exits of its state
   pub slow_stem_for : {b : Bool} → b ≡ is_slow (class_for exit.class) → b ≡ true
       → stem_for (net_in l) path tip exit

@@ -3,16 +3,18 @@ use Prim.Native.Nat.{ℕ, ◌+◌, ◌-◌, ◌≤◌, ◌<◌}
 use mathlib.Core.Path.{◌≡◌, refl, sym, ap, ◌∙◌}
 use mathlib.Core.Bool.{Bool, true, false}
 use mathlib.Core.List.{List, [], ◌∷◌}
-use native.Mathlib.Nat.{le_of_lt}
+use native.Mathlib.Nat.{le_of_lt, le_trans}
 use native.Mathlib.Omega.{arith}
 use lib.Dec.{lit≤, leb}
-use lib.IntN.{ℤ, negsuc}
+use lib.IntN.{negsuc}
+use lib.ListN.{length}
 use borrow.Author.Tests.{le-leb, lt-leb, leb-true, leb-false}
 use Rattle.std.specs.Prelude.{Option, None, Some}
 use Rattle.figure.specs.declared.Figure.{Figure}
-use Rattle.figure.specs.Rounding.{none, down}
+use Rattle.figure.specs.Rounding.{none, up, down}
 use Rattle.figure.specs.Operands.{Sized}
 use Rattle.figure.specs.Operations.{times_up, times_down, plus_up, minus_down, divided_up, divided_down, times_ten, of_whole}
+use Rattle.figure.specs.Losses.{keeps, times_keeps}
 use Rattle.figure.proofs.Sized.{sized-≤}
 use Rattle.word.specs.Internal.Lists.{Each}
 use Rattle.word.specs.Model.{Transition, Net, Model}
@@ -24,30 +26,32 @@ use Rattle.tree.specs.Upper.{share}
 use Rattle.tree.specs.Grains.{grain_sum}
 use Rattle.tree.specs.Lower.{lower_product, path_rate_sum, remaining_time, last_factor, lower_with, lower}
 use Rattle.tree.proofs.Steps.{class1_count_more, grains_any, lower_grains, lower_full, lower_else}
-use Rattle.tree.proofs.RemainingTime.{remaining_time_down, remaining_time_up}
-use Rattle.tree.proofs.Ranges.{class1_count-≤, time_down_sized, last_sized, lower_sized}
+use Rattle.tree.proofs.RemainingTime.{remaining_time_down, remaining_time_up, remaining_time_keeps}
+use Rattle.tree.proofs.Ranges.{class1_count-≤, path_rate_sum_sized, count_sized, mission_time_sized, time_down_sized, time_up_sized, last_sized, lower_sized}
 use Rattle.tables.specs.Internal.Classes.{class_for, is_class1}
 use Rattle.tables.specs.Internal.Tables.{step_factor}
 use Rattle.tables.proofs.Classes.{step_valid, one_true, one_false, counts_none}
 use Rattle.path.specs.declared.exits.Tip.{Tip}
 use Rattle.path.specs.declared.exits.Exit.{Exit}
 use Rattle.path.specs.declared.deaths.Stem.{Stem}
-use Rattle.path.specs.Internal.Lent.{Lent, model_in, net_in}
+use Rattle.path.specs.Internal.Lent.{Lent, Filled, model_in, net_in}
+use Rattle.path.specs.Internal.Marks.{last_of}
 use Rattle.path.specs.Internal.Paths.{path_of, Known, own_grains}
-use Rattle.path.specs.Internal.Deaths.{LastStep, StemSized, AnyStemSized, last_by, stem_at, stem_of, stem_for, death_lower}
-use Rattle.path.proofs.PathSums.{path_length, path_valid, SpentOn, spent_one, spent_other, spent_sized, spent_high, Multiplied, multiplied_one, multiplied_other, multiplied_sized}
+use Rattle.path.specs.Internal.Deaths.{LastStep, StemSized, AnyStemSized, StemIs, last_by, stem_at, stem_of, stem_for, death_lower}
+use Rattle.path.proofs.PathSums.{path_length, path_valid, product_fine, product_one, product_other}
+use Rattle.path.proofs.PathSums.{Alone, SpentSoFar, found_one, found_other, spent_one, spent_other}
 
 -- ---- the cases of the lower
 
-pub sized_some : {o : Option Stem} {c : Stem} → o ≡ Some c → AnyStemSized o → StemSized c
+pub sized_some : {o : Option (Stem Figure)} {c : Stem Figure} → o ≡ Some c → AnyStemSized o → StemSized c
 sized_some e h = rw e at h
 
-module _ {o : Option Stem} (x : Class) (s f n : Figure) where
+module _ {o : Option (Stem Figure)} (x : Class) (s f n : Figure) where
   pub lower_none : o ≡ None → death_lower o x s f n ≡ none
   unfolding death_lower
   lower_none e = rw (e, death_lower)
 
-  module _ {c : Stem} (some : o ≡ Some c) where
+  module _ {c : Stem Figure} (some : o ≡ Some c) where
     pub lower_one : is_class1 x ≡ true → death_lower o x s f n ≡ times_down (divided_down (times_down (times_down c.product s) c.time) n) c.last
     unfolding death_lower
     lower_one h = rw (some, h, death_lower)
@@ -58,13 +62,8 @@ module _ {o : Option Stem} (x : Class) (s f n : Figure) where
 
 -- ---- the stem, as it is worked out
 
--- a product times a power of ten, of operands that are known
-pub scaled : (op : Figure → Figure → Figure) (q : ℤ) {r f a b x y : Figure}
-    → r ≡ times_ten f q → f ≡ op a b → a ≡ x → b ≡ y → r ≡ times_ten (op x y) q
-scaled op q h k d e = rw (h, k, d, e)
-
 -- a stem by its parts, while N' leaves some of the mission time
-abbrev pub parts : Net → Path → ℕ → Figure → ℕ → Stem
+abbrev pub parts : Net → Path → ℕ → Figure → ℕ → Stem Figure
 parts net p n a k = record {
   time = down 9 (remaining_time net n);
   product = lower_product net (own_grains net) (down 9 (remaining_time net n)) p;
@@ -80,48 +79,65 @@ module _ (net : Net) (p : Path) (n : ℕ) (a : Figure) (k : ℕ) where
   unfolding stem_at
   stem_parts e = rw (e, stem_at)
 
--- N' fills the mission time
-pub stem_full : (net : Net) (p : Path) (n : ℕ) (a : Figure) (k : ℕ) → 1000000 ≤ n → None ≡ stem_at net p n a k
-stem_full net p n a k h = sym (stem_filled net p n a k (le-leb 1000000 n h))
-
-same_parts : {a b : Stem} → a.time ≡ b.time → a.product ≡ b.product → a.last ≡ b.last → a ≡ b
+same_parts : {a b : Stem Figure} → a.time ≡ b.time → a.product ≡ b.product → a.last ≡ b.last → a ≡ b
 same_parts e f g = λ i. record { time = e i; product = f i; last = g i }
 
-module _ {m : Model} (valid : Valid m) {n : ℕ} (inside : n < 1000000) where
-  -- else t is rounded by operations on figures
-  pub stem_rest : (p : Path) (a : Figure) (k : ℕ) {above : Figure} {c : Stem}
-      → c.time ≡ times_ten (times_down (mission_time m.net) (of_whole (1000000 - n))) (negsuc 5)
-      → above ≡ times_ten (times_up (mission_time m.net) (of_whole (1000000 - n))) (negsuc 5)
-      → c.product ≡ lower_product m.net (own_grains m.net) c.time p
-      → c.last ≡ minus_down (of_whole 1) (divided_up (times_up above a) (of_whole (k + 1)))
-      → Some c ≡ stem_at m.net p n a k
-  unfolding last_by
-  stem_rest p a k t u q l =
-      let time = t ∙ sym (remaining_time_down valid n (le_of_lt inside)) in
-      let above = u ∙ sym (remaining_time_up valid n (le_of_lt inside)) in
-      let product = q ∙ ap (λ (t : Figure). lower_product m.net (own_grains m.net) t p) time in
-      let last = l ∙ ap (λ (t : Figure). minus_down (of_whole 1) (divided_up (times_up t a) (of_whole (k + 1)))) above in
-      ap Some (same_parts {b = parts m.net p n a k} time product last) ∙ sym (stem_parts m.net p n a k (lt-leb 1000000 n inside))
+-- as the code works it out on figures alone
+pub stem_is_at : (net : Net) (p : Path) (n : ℕ) (a : Figure) (b : Bool) (k : ℕ) (c : Option (Stem Figure))
+    → StemIs Alone net p n a b k c → c ≡ stem_at net p n a k
+stem_is_at net p n a b k None h = sym (stem_filled net p n a k (le-leb 1000000 n h))
+stem_is_at net p n a b k (Some c) h =
+    ap Some (same_parts {b = parts net p n a k} h.time_is h.product_is h.last_is) ∙ sym (stem_parts net p n a k (lt-leb 1000000 n h.inside))
 
-  pub stem_sized : {l : List ℕ} {a : Figure} {k : ℕ} {c : Option Stem} → Known m.net l → Sized 9 1000 a → k ≤ 24
+-- what is left of the mission time, by operations on figures
+module _ {m : Model} (valid : Valid m) {n : ℕ} (inside : n < 1000000) {time rest : Figure} (time_is : time ≡ mission_time m.net)
+    (rest_is : rest ≡ of_whole (1000000 - n)) where
+  pub time_fine : Sized 9 40 time
+  time_fine = rw time_is (mission_time_sized valid)
+
+  pub rest_fine : Sized 9 20 rest
+  rest_fine = rw rest_is (count_sized _ (le_trans {m = 1000000} (omega arith) (lit≤ tt)))
+
+  pub down_is : times_ten (times_down time rest) (negsuc 5) ≡ down 9 (remaining_time m.net n)
+  down_is = rw (time_is, rest_is) (sym (remaining_time_down valid n (le_of_lt inside)))
+
+  pub up_is : times_ten (times_up time rest) (negsuc 5) ≡ up 9 (remaining_time m.net n)
+  up_is = rw (time_is, rest_is) (sym (remaining_time_up valid n (le_of_lt inside)))
+
+  pub keeps_is : times_keeps time rest ≡ keeps 9 (remaining_time m.net n)
+  keeps_is = rw (time_is, rest_is) (sym (remaining_time_keeps valid n (le_of_lt inside)))
+
+  pub down_fine : Sized 9 100 (down 9 (remaining_time m.net n))
+  down_fine = time_down_sized valid n (le_of_lt inside)
+
+  pub up_fine : Sized 9 100 (up 9 (remaining_time m.net n))
+  up_fine = time_up_sized valid n (le_of_lt inside)
+
+module _ {m : Model} (valid : Valid m) where
+  pub stem_sized : {l : List ℕ} (n : ℕ) (a : Figure) (k : ℕ) {c : Option (Stem Figure)} → Known m.net l → Sized 9 1000 a → k ≤ 24
       → c ≡ stem_at m.net (path_of m.net l) n a k → AnyStemSized c
-  unfolding last_by
-  stem_sized {l} {a} {k = k} known size few s =
-      let h = time_down_sized valid n (le_of_lt inside) in
-      rw (s, stem_parts m.net (path_of m.net l) n a k (lt-leb 1000000 n inside)) (record {
-        time = h;
-        product = multiplied_sized valid known h (record { ones_are = refl; product_is = refl });
-        last = sized-≤ (lit≤ tt) (last_sized valid n k (le_of_lt inside) few size);
-      })
+  unfolding last_by last_of
+  stem_sized {l} n a k {c} known size few s = go (leb 1000000 n) refl
+    where
+      go : (b : Bool) → leb 1000000 n ≡ b → AnyStemSized c
+      go true e = rw (s, stem_filled m.net (path_of m.net l) n a k e) tt
+      go false e =
+          let inside : n < 1000000 = leb-false 1000000 n e in
+          let h = time_down_sized valid n (le_of_lt inside) in
+          rw (s, stem_parts m.net (path_of m.net l) n a k e) (record {
+            time = h;
+            product = product_fine valid known h;
+            last = sized-≤ (lit≤ tt) (last_sized valid n k (le_of_lt inside) few size);
+          })
 
 -- ---- by the last step t after the path p
 
 last_same : (net : Net) (n : ℕ) (q : Path) → last_by net n (path_rate_sum net q) (class1_count net q) ≡ last_factor net n q
-unfolding last_by last_factor
+unfolding last_by last_of last_factor
 last_same net n q = refl
 
 -- N', A and k of the path with its last step
-abbrev stem_on : Net → Transition → Path → Option Stem
+abbrev stem_on : Net → Transition → Path → Option (Stem Figure)
 stem_on net t p = stem_at net p (grain_sum net (own_grains net) (t ∷ p)) (path_rate_sum net (t ∷ p)) (class1_count net (t ∷ p))
 
 module _ (net : Net) (t : Transition) (p : Path) where
@@ -129,9 +145,9 @@ module _ (net : Net) (t : Transition) (p : Path) where
   unfolding grain_sum path_rate_sum class1_count
   by_step = refl
 
-  pub stem_by_step : {c : Option Stem} {n : ℕ} {a : Figure} {k : ℕ} → SpentOn net (t ∷ p) n a → k ≡ class1_count net (t ∷ p) → c ≡ stem_at net p n a k
-      → c ≡ stem_of net p t t.from
-  stem_by_step spent count s = (rw (spent.grains_are, spent.rates_are, count) at s) ∙ by_step
+  pub stem_by_step : {c : Option (Stem Figure)} {n : ℕ} {a : Figure} {k : ℕ} → n ≡ grain_sum net (own_grains net) (t ∷ p) → a ≡ path_rate_sum net (t ∷ p)
+      → k ≡ class1_count net (t ∷ p) → c ≡ stem_at net p n a k → c ≡ stem_of net p t t.from
+  stem_by_step e f g s = (rw (e, f, g) at s) ∙ by_step
 
   -- the lower of the path with its last step; k counts if that is of class 1
   death_is : {k : ℕ} → (class net t ≡ class1 → k ≡ class1_count net (t ∷ p))
@@ -145,26 +161,20 @@ module _ (net : Net) (t : Transition) (p : Path) where
       time : Figure
       time = down 9 (remaining_time net N)
 
-      whole : Stem
+      whole : Stem Figure
       whole = parts net p N (path_rate_sum net (t ∷ p)) (class1_count net (t ∷ p))
 
       own : lower net (t ∷ p) ≡ lower_with net (own_grains net) (t ∷ p)
       own = lower_grains net (t ∷ p) ∙ ap (λ (g : Transition → ℕ). lower_with net g (t ∷ p)) (grains_any net (t ∷ p) [])
-
-      so_far : Multiplied net time p (class1_count net p) (lower_product net (own_grains net) time p)
-      so_far = record { ones_are = refl; product_is = refl }
 
       by_class : (b : Bool) → is_class1 (class net t) ≡ b
           → death_lower (Some whole) (class net t) (share t.manner) (step_factor net (class net t) t) (of_whole k)
           ≡ times_down (lower_product net (own_grains net) time (t ∷ p)) whole.last
       by_class true h =
           let first = one_true _ h in
-          let m = multiplied_one t so_far first refl in
-          let same : divided_down (times_down (times_down whole.product (share t.manner)) time) (of_whole k)
-          ≡ lower_product net (own_grains net) time (t ∷ p) = rw (count first ∙ sym m.ones_are) m.product_is in
-          lower_one {o = Some whole} _ _ _ _ refl h ∙ ap (λ (f : Figure). times_down f whole.last) same
+          lower_one {o = Some whole} _ _ _ _ refl h ∙ ap (λ (f : Figure). times_down f whole.last) (rw (product_one net time t p first, count first))
       by_class false h =
-          lower_other {o = Some whole} _ _ _ _ refl h ∙ ap (λ (f : Figure). times_down f whole.last) (multiplied_other t so_far (one_false _ h) refl).product_is
+          lower_other {o = Some whole} _ _ _ _ refl h ∙ ap (λ (f : Figure). times_down f whole.last) (sym (product_other net time t p (one_false _ h)))
 
       go : (b : Bool) → leb 1000000 N ≡ b
           → death_lower (stem_on net t p) (class net t) (share t.manner) (step_factor net (class net t) t) (of_whole k) ≡ lower net (t ∷ p)
@@ -179,7 +189,7 @@ module _ (net : Net) (t : Transition) (p : Path) where
 
 -- ---- the last step, as the code has it
 
-module _ {l : Lent} {time : Figure} {path : List ℕ} {tip : Tip} {exit : Exit} (last : LastStep l time path tip exit) where
+module _ {l : Lent} (filled : Filled l) {path : List ℕ} {tip : Tip} {exit : Exit} (last : LastStep l path tip exit) where
   abbrev net : Net
   net = net_in l
 
@@ -190,42 +200,38 @@ module _ {l : Lent} {time : Figure} {path : List ℕ} {tip : Tip} {exit : Exit} 
   step = transition net exit.index
 
   last_valid : Valid (model_in l)
-  last_valid = last.filled.indexes.valid
+  last_valid = filled.indexes.valid
 
   pub ones_high : tip.ones < 24
   ones_high = omega (arith, last.ones_are, class1_count-≤ net before, path_length net path, last.room)
 
-  -- its stem: n and a are N' and A before it
+  pub before_short : length before < 24
+  before_short = omega (arith, path_length net path, last.room)
 
-  module _ {n : ℕ} {a : Figure} (spent : SpentOn net before n a) where
-    pub so_far_sized : Sized 9 980 a
-    so_far_sized = spent_sized last_valid last.known spent
+  -- N', A and k with the last step, and its stem
 
-    pub so_far_high : n ≤ 24000000
-    so_far_high = spent_high spent (omega (arith, path_length net path, last.room))
+  pub with_one : {n k : ℕ} {a b : Figure} {test : Bool} → SpentSoFar Alone net before n a k → test ≡ is_class1 (class_for exit.class) → test ≡ true
+      → {e : Figure} → e ≡ rate_sum net step.from → b ≡ plus_up a e → SpentSoFar Alone net (step ∷ before) n b (k + 1)
+  with_one spent test on e-is b-is =
+      spent_one Alone net step before spent (found_one last.class_is test on) (b-is ∙ rw (e-is, spent.rates_are))
 
-    module _ {b : Bool} (test : b ≡ is_class1 (class_for exit.class)) where
-      tested : is_class1 (class net step) ≡ b
-      tested = sym (ap is_class1 last.class_is) ∙ sym test
+  pub with_other : {n k : ℕ} {a : Figure} {test : Bool} → SpentSoFar Alone net before n a k → test ≡ is_class1 (class_for exit.class) → test ≡ false
+      → {g : ℕ} → g ≡ own_grains net step → SpentSoFar Alone net (step ∷ before) (n + g) a k
+  with_other spent test off g-is = spent_other Alone net step before spent (found_other last.class_is test off) g-is
 
-      pub stem_one : b ≡ true → {e m : Figure} {c : Option Stem} → e ≡ rate_sum net step.from → m ≡ plus_up a e
-          → c ≡ stem_at net before n m (tip.ones + 1) → c ≡ stem_for net path tip exit
-      stem_one on e-is m-is s =
-          let first = one_true (class net step) (tested ∙ on) in
-          let count : tip.ones + 1 ≡ class1_count net (step ∷ before) =
-          omega (arith, last.ones_are, ap counts_1 first, class1_count_more net step before) in
-          rw last.leaves (stem_by_step net step before (rw m-is (spent_one step spent first e-is)) count s)
+  module _ {n : ℕ} {a : Figure} {k : ℕ} (spent : SpentSoFar Alone net (step ∷ before) n a k) where
+    pub with_sized : Sized 9 1000 a
+    with_sized = rw spent.rates_are (sized-≤ (omega (arith, before_short)) (path_rate_sum_sized last_valid (step ∷ before)))
 
-      pub stem_other : b ≡ false → {g : ℕ} {c : Option Stem} → g ≡ own_grains net step → c ≡ stem_at net before (n + g) a tip.ones → c ≡ stem_for net path tip exit
-      stem_other off g-is s =
-          let other = one_false (class net step) (tested ∙ off) in
-          let count : tip.ones ≡ class1_count net (step ∷ before) =
-          omega (arith, last.ones_are, counts_none (class net step) other, class1_count_more net step before) in
-          rw last.leaves (stem_by_step net step before (spent_other step spent other g-is) count s)
+    pub with_few : k ≤ 24
+    with_few = omega (arith, spent.ones_are, class1_count-≤ net (step ∷ before), before_short)
+
+    pub with_stem : {c : Option (Stem Figure)} → c ≡ stem_at net before n a k → c ≡ stem_for net path tip exit
+    with_stem s = rw last.leaves (stem_by_step net step before spent.grains_are spent.rates_are spent.ones_are s)
 
   -- the lower that the code works out for the path with its last step
 
-  pub death_at : {c : Option Stem} {r f g n : Figure} → c ≡ stem_for net path tip exit → f ≡ share step.manner → g ≡ step_factor net (class net step) step
+  pub death_at : {c : Option (Stem Figure)} {r f g n : Figure} → c ≡ stem_for net path tip exit → f ≡ share step.manner → g ≡ step_factor net (class net step) step
       → n ≡ of_whole (tip.ones + 1) → r ≡ death_lower c (class_for exit.class) f g n → r ≡ lower net (step ∷ before)
   death_at stem f-is g-is n_is r-is =
       rw (r-is, stem, last.leaves, f-is, g-is, n_is, last.class_is) (death_is net step before
@@ -234,5 +240,5 @@ module _ {l : Lent} {time : Figure} {path : List ℕ} {tip : Tip} {exit : Exit} 
   pub last_lower : {f : Figure} → f ≡ lower net (step ∷ before) → Sized 9 35000 f
   unfolding Each
   last_lower e =
-      rw e (sized-≤ (lit≤ tt) (lower_sized last_valid (step ∷ before) (omega (arith, path_length net path, last.room))
+      rw e (sized-≤ (lit≤ tt) (lower_sized last_valid (step ∷ before) (omega (arith, before_short))
       ((step_valid last_valid last.index).manner, path_valid last_valid path last.known)))

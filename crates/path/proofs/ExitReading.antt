@@ -22,11 +22,11 @@ use Rattle.tables.specs.Internal.Classes.{class_for, class_by}
 use Rattle.tables.specs.Internal.Tables.{share_in, mean_up_in}
 use Rattle.tables.proofs.Classes.{step_valid, index_small, origin_small, place_inside, class_read}
 use Rattle.path.specs.declared.exits.Tip.{Tip}
-use Rattle.path.specs.Internal.Lent.{Lent, model_in, net_in}
+use Rattle.path.specs.Internal.Lent.{Lent, Filled, model_in, net_in}
 use Rattle.path.specs.Internal.Exits.{tip_by, ExitReady, ExitOf}
 use Rattle.path.proofs.ExitTips.{tip_by_transition}
 
-module _ {l : Lent} {time : Figure} {tip : Tip} {i : ℕ} (h : ExitReady l time tip i) where
+module _ {l : Lent} {time : Figure} (filled : Filled l) (time_is : time ≡ mission_time (net_in l)) {tip : Tip} {i : ℕ} (h : ExitReady l tip i) where
   -- the index of the exit's transition
   abbrev at : ℕ
   at = slot l.index tip.state i
@@ -35,20 +35,20 @@ module _ {l : Lent} {time : Figure} {tip : Tip} {i : ℕ} (h : ExitReady l time 
   exit = transition (net_in l) at
 
   valid : Valid (model_in l)
-  valid = h.filled.indexes.valid
+  valid = filled.indexes.valid
 
   pub state_small : tip.state ≤ 1000
   state_small = omega (arith, origin_small valid h.index, h.leaves)
 
   pub time_sized : Sized 9 1000 time
-  time_sized = rw h.time_is (sized-≤ (lit≤ tt) (mission_time_sized valid))
+  time_sized = rw time_is (sized-≤ (lit≤ tt) (mission_time_sized valid))
 
   -- h of the state
   module _ {m : Figure} (m-is : m ≡ mean_up_in l.table tip.state) where
     mean_is : m ≡ mean_up (net_in l) exit.from
     mean_is =
         let v = step_valid valid h.index in
-        m-is ∙ ap (mean_up_in l.table) (sym h.leaves) ∙ h.filled.tabled.states.means_up exit.from v.from_low v.from_high
+        m-is ∙ ap (mean_up_in l.table) (sym h.leaves) ∙ filled.tabled.states.means_up exit.from v.from_low v.from_high
 
     pub mean_sized : Sized 9 1000 m
     mean_sized = rw mean_is (sized-≤ (lit≤ tt) (mean_up_sized valid exit.from))
@@ -59,11 +59,11 @@ module _ {l : Lent} {time : Figure} {tip : Tip} {i : ℕ} (h : ExitReady l time 
     exit_small = rw j-is (index_small valid h.index)
 
     pub exit_inside : place_of l.index j < length l.words
-    exit_inside = rw j-is (place_inside h.filled.indexes h.index)
+    exit_inside = rw j-is (place_inside filled.indexes h.index)
 
     module _ {s : Figure} (s-is : s ≡ share_in l.table j) where
       share_is : s ≡ share exit.manner
-      share_is = s-is ∙ ap (share_in l.table) j-is ∙ h.filled.tabled.steps.shares at h.index
+      share_is = s-is ∙ ap (share_in l.table) j-is ∙ filled.tabled.steps.shares at h.index
 
       pub exit_share_sized : Sized 9 1000 s
       exit_share_sized = rw share_is (sized-≤ (lit≤ tt) (share_sized exit.manner (step_valid valid h.index).manner))
@@ -88,13 +88,13 @@ module _ {l : Lent} {time : Figure} {tip : Tip} {i : ℕ} (h : ExitReady l time 
         class_is = class_there;
         tip_is =
             next_is
-            ∙ same_tip class_there (to_is ∙ ap to_field word_there ∙ stands_to (h.filled.indexes.indexed.places_are at h.index)) (share_is s-is) (mean_is m-is)
+            ∙ same_tip class_there (to_is ∙ ap to_field word_there ∙ stands_to (filled.indexes.indexed.places_are at h.index)) (share_is s-is) (mean_is m-is)
             ∙ tip_by_transition (net_in l) exit tip;
       })
         where
           class_there : class_for x ≡ class (net_in l) exit
-          class_there = class_read h.filled.indexes h.index word_there b-is (mean_is m-is) x-is
+          class_there = class_read filled.indexes h.index word_there b-is (mean_is m-is) x-is
 
           same_tip : {c : Class} → c ≡ class (net_in l) exit → to ≡ exit.to → s ≡ share exit.manner → m ≡ mean_up (net_in l) exit.from
               → tip_by tip c to s m time ≡ tip_by tip (class (net_in l) exit) exit.to (share exit.manner) (mean_up (net_in l) exit.from) (mission_time (net_in l))
-          same_tip p q r u = let v = h.time_is in cc
+          same_tip p q r u = cc

@@ -1,11 +1,11 @@
 pub mod VisitNoted
 pub mod ExitTips
 pub mod ExitReading
+mod Regrouped
 pub mod PathSums
+mod UpperMarks
+mod LowerMarks
 pub mod PathSteps
-pub mod StepMarks
 pub mod MarkFacts
-pub mod PathMarks
-pub mod LowerMarks
 pub mod DeathStems
 pub mod DeathCache

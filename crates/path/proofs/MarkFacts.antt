@@ -1,33 +1,50 @@
--- What a step's class says of its marks: on every path its grains have the same mark, a class 1 step has none to lose, and any other step's mark in
--- a lower is that of its factor with that of the product. Assumes nothing.
+-- The marks of grains: a step's is the same on every path, and a path's are those of the steps that a slice holds. Assumes nothing.
 use Prim.Native.Nat.{ℕ}
-use mathlib.Core.Path.{◌≡◌, refl}
-use mathlib.Core.Bool.{true, ◌&&◌}
-use mathlib.Core.List.{[]}
-use Rattle.figure.specs.declared.Figure.{Figure}
-use Rattle.figure.specs.Losses.{times_keeps}
+use mathlib.Core.Path.{◌≡◌, refl, sym, ap, ◌∙◌}
+use mathlib.Core.Bool.{Bool, true, false, true≢false, ◌&&◌}
+use mathlib.Core.List.{List, [], ◌∷◌, ◌++◌}
+use Rattle.std.proofs.Common.{◌↔◌, All, IsTrue, map, reverse}
+use Rattle.std.specs.List.{list_all}
+use Rattle.std.proofs.lemmas.List.{reverse-append}
+use Rattle.std.proofs.lemmas.List.Sums.{AllPass-from_list_all, list_all-from_AllPass}
 use Rattle.word.specs.Model.{Transition, Net}
-use Rattle.tree.specs.Paths.{Path, Class, class1, class2, class3, class}
-use Rattle.tree.specs.Marks.{grains_kept, lower_step_kept}
-use Rattle.tables.specs.Internal.Tables.{step_factor, step_factor_kept}
-use Rattle.path.specs.Internal.Paths.{own_grains}
+use Rattle.model.specs.Index.{transition}
+use Rattle.tree.specs.Paths.{Path}
+use Rattle.tree.specs.Marks.{grains_kept, all_grains_kept}
+use Rattle.path.specs.Internal.Paths.{path_of}
+use Rattle.path.proofs.Regrouped.{swapped, all_more}
 
 pub grains_kept_path : (net : Net) (p : Path) (t : Transition) → grains_kept net p t ≡ grains_kept net [] t
 unfolding grains_kept
 grains_kept_path net p t = refl
 
-pub grains_kept_one : (net : Net) (t : Transition) → class net t ≡ class1 → grains_kept net [] t ≡ true
-unfolding grains_kept
-grains_kept_one net t c = cc
-
-pub factor_kept_other : (net : Net) (t : Figure) (k : ℕ) (x : Transition) (l : Figure) → (class net x ≡ class1 → ⊥)
-    → lower_step_kept net t (class net x) k (own_grains net x) x l
-    ≡ (step_factor_kept net (class net x) x && times_keeps l (step_factor net (class net x) x))
-unfolding step_factor step_factor_kept
-factor_kept_other net t k x l = go (class net x)
+-- a mark of each step, along the path and along the slice
+all_append : (kept : Transition → Bool) (p q : Path) → all_grains_kept kept (p ++ q) ≡ (all_grains_kept kept p && all_grains_kept kept q)
+unfolding all_grains_kept
+all_append kept [] q = refl
+all_append kept (t ∷ p) q = rw (all_append kept p q) (sym (joined (kept t) (all_grains_kept kept p) (all_grains_kept kept q)))
   where
-    go : (c : Class) → (c ≡ class1 → ⊥)
-        → lower_step_kept net t c k (own_grains net x) x l ≡ (step_factor_kept net c x && times_keeps l (step_factor net c x))
-    go class1 h = absurd (h refl)
-    go class2 h = refl
-    go class3 h = refl
+    joined : (a b c : Bool) → ((a && b) && c) ≡ (a && (b && c))
+    joined true b c = refl
+    joined false b c = refl
+
+pub all_listed : (p : ℕ → Bool) (l : List ℕ) (r : Bool) → (IsTrue r ↔ All (λ j. p j ≡ true) l) → r ≡ list_all p l
+all_listed p l r each = go r (list_all p l) refl each
+  where
+    go : (r q : Bool) → list_all p l ≡ q → (IsTrue r ↔ All (λ j. p j ≡ true) l) → r ≡ list_all p l
+    go true q e h = sym (list_all-from_AllPass p l (h.0 refl))
+    go false true e h = absurd (true≢false (sym (h.1 (AllPass-from_list_all p l e))))
+    go false false e h = sym e
+
+pub all_grains_listed : (net : Net) (l : List ℕ)
+    → list_all (λ j. grains_kept net [] (transition net j)) l ≡ all_grains_kept (grains_kept net []) (path_of net l)
+unfolding path_of all_grains_kept
+all_grains_listed net [] = refl
+all_grains_listed net (j ∷ l) =
+    ap (λ b. grains_kept net [] (transition net j) && b) (all_grains_listed net l)
+    ∙ swapped (grains_kept net [] (transition net j)) (all_grains_kept (grains_kept net []) (path_of net l))
+    ∙ sym (rw (
+      reverse-append (transition net j ∷ []) (map (transition net) l),
+      all_append (grains_kept net []) (reverse (map (transition net) l)) (transition net j ∷ []),
+    )
+    (ap (λ b. all_grains_kept (grains_kept net []) (reverse (map (transition net) l)) && b) (all_more (grains_kept net [] (transition net j)))))

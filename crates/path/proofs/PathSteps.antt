@@ -1,6 +1,7 @@
--- A transition as the table has it: what is read of it is its own, and in range. Assumes nothing.
+-- A transition as the table has it: what is read of it, and of the state that it leaves, is its own, and in range. Assumes nothing.
 use Prim.Native.Nat.{ℕ, ◌≤◌, ◌<◌}
 use mathlib.Core.Path.{◌≡◌, ap, ◌∙◌}
+use mathlib.Core.Bool.{Bool}
 use mathlib.Core.List.{[]}
 use native.Mathlib.Omega.{arith}
 use lib.ListN.{length}
@@ -10,12 +11,13 @@ use Rattle.word.specs.Model.{Transition}
 use Rattle.model.specs.Index.{transition}
 use Rattle.model.specs.Internal.Valid.{ValidTransition, Valid}
 use Rattle.tree.specs.Paths.{class}
-use Rattle.tree.specs.States.{rate_sum}
+use Rattle.tree.specs.States.{rate_sum, mean_up}
+use Rattle.tree.specs.Marks.{rate_sum_kept, mean_up_kept}
 use Rattle.tree.specs.Upper.{share}
 use Rattle.tree.proofs.Least.{grains_high}
-use Rattle.tree.proofs.Ranges.{share_sized, rate_sum_sized}
-use Rattle.tables.specs.Internal.Tables.{step_factor, share_in, factor_in, grain_count_in, rate_sum_in}
-use Rattle.tables.proofs.Classes.{step_valid, index_small, origin_small}
+use Rattle.tree.proofs.Ranges.{share_sized, rate_sum_sized, mean_up_sized}
+use Rattle.tables.specs.Internal.Tables.{step_factor, grain_count_in, rate_sum_in, rate_sum_kept_in, mean_up_in, mean_up_kept_in}
+use Rattle.tables.proofs.Classes.{step_valid, origin_small}
 use Rattle.path.specs.Internal.Lent.{Lent, Filled, model_in, net_in}
 use Rattle.path.specs.Internal.Paths.{own_grains}
 use Rattle.path.proofs.PathSums.{step_factor_sized}
@@ -30,38 +32,40 @@ module _ {l : Lent} (filled : Filled l) {j : ℕ} (inside : j < length (net_in l
   step_fine : ValidTransition (model_in l).states step
   step_fine = step_valid valid inside
 
-  pub step_small : j < 4000
-  step_small = index_small valid inside
+  -- ---- ranges
 
-  module _ {f : Figure} (is : f ≡ share_in l.table j) where
-    pub share_held : f ≡ share step.manner
-    share_held = is ∙ filled.tabled.steps.shares j inside
+  pub share_fine : Sized 9 40 (share step.manner)
+  share_fine = share_sized step.manner step_fine.manner
 
-    pub share_held_sized : Sized 9 40 f
-    share_held_sized = rw share_held (share_sized step.manner step_fine.manner)
+  pub factor_fine : Sized 9 1200 (step_factor (net_in l) (class (net_in l) step) step)
+  factor_fine = step_factor_sized valid step step_fine.manner
 
-  module _ {f : Figure} (is : f ≡ factor_in l.table j) where
-    pub factor_held : f ≡ step_factor (net_in l) (class (net_in l) step) step
-    factor_held = is ∙ filled.tabled.steps.factors j inside
+  pub rate_fine : Sized 9 500 (rate_sum (net_in l) step.from)
+  rate_fine = rate_sum_sized valid step.from
 
-    pub factor_held_sized : Sized 9 1200 f
-    factor_held_sized = rw factor_held (step_factor_sized valid step step_fine.manner)
+  pub mean_fine : Sized 9 500 (mean_up (net_in l) step.from)
+  mean_fine = mean_up_sized valid step.from
 
-  module _ {n : ℕ} (is : n ≡ grain_count_in l.table j) where
-    pub grains_held : n ≡ own_grains (net_in l) step
-    grains_held = is ∙ filled.tabled.steps.grain_counts j inside
+  pub grains_high_held : own_grains (net_in l) step ≤ 1000000
+  grains_high_held = grains_high (net_in l) [] step
 
-    pub grains_held_high : n ≤ 1000000
-    grains_held_high = rw grains_held (grains_high (net_in l) [] step)
+  -- ---- what is read: s is the state that it leaves
 
-  -- s is the state that it leaves
+  pub grains_held : {n : ℕ} → n ≡ grain_count_in l.table j → n ≡ own_grains (net_in l) step
+  grains_held is = is ∙ filled.tabled.steps.grain_counts j inside
+
   module _ {s : ℕ} (leaves : s ≡ step.from) where
-    pub state_held_small : s ≤ 1000
-    state_held_small = let h = origin_small valid inside in omega (arith, leaves)
+    pub state_held_small : s < 1001
+    state_held_small = omega (arith, leaves, origin_small valid inside)
 
-    module _ {f : Figure} (is : f ≡ rate_sum_in l.table s) where
-      pub rate_held : f ≡ rate_sum (net_in l) step.from
-      rate_held = is ∙ ap (rate_sum_in l.table) leaves ∙ filled.tabled.states.rate_sums step.from step_fine.from_low step_fine.from_high
+    pub rate_held : {f : Figure} → f ≡ rate_sum_in l.table s → f ≡ rate_sum (net_in l) step.from
+    rate_held is = is ∙ ap (rate_sum_in l.table) leaves ∙ filled.tabled.states.rate_sums step.from step_fine.from_low step_fine.from_high
 
-      pub rate_held_sized : Sized 9 500 f
-      rate_held_sized = rw rate_held (rate_sum_sized valid step.from)
+    pub rate_kept_held : {b : Bool} → b ≡ rate_sum_kept_in l.table s → b ≡ rate_sum_kept (net_in l) step.from
+    rate_kept_held is = is ∙ ap (rate_sum_kept_in l.table) leaves ∙ filled.tabled.states.rate_sums_kept step.from step_fine.from_low step_fine.from_high
+
+    pub mean_held : {f : Figure} → f ≡ mean_up_in l.table s → f ≡ mean_up (net_in l) step.from
+    mean_held is = is ∙ ap (mean_up_in l.table) leaves ∙ filled.tabled.states.means_up step.from step_fine.from_low step_fine.from_high
+
+    pub mean_kept_held : {b : Bool} → b ≡ mean_up_kept_in l.table s → b ≡ mean_up_kept (net_in l) step.from
+    mean_kept_held is = is ∙ ap (mean_up_kept_in l.table) leaves ∙ filled.tabled.states.means_up_kept step.from step_fine.from_low step_fine.from_high

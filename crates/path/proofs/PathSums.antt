@@ -1,10 +1,12 @@
--- What is worked out along a path held in a slice: N', A, k and the product of the factors, one step after the other, and their ranges. Assumes
--- nothing.
+-- What is worked out along a path that a slice holds: N', A, k and the product of the factors, one step after the other, with the marks, and their
+-- ranges. Assumes nothing.
 use Prim.Native.Nat.{ℕ, zero, suc, ◌+◌, ◌*◌, ◌<◌, ◌≤◌}
 use mathlib.Core.Path.{◌≡◌, refl, sym, ap, ◌∙◌}
+use mathlib.Core.Bool.{Bool, true, false, ◌&&◌}
 use mathlib.Core.List.{List, [], ◌∷◌, ◌++◌}
 use native.Mathlib.Nat.{le_trans}
 use native.Mathlib.Omega.{arith}
+use lib.Dec.{lit≤}
 use lib.ListN.{length, get_or}
 use Rattle.std.proofs.Common.{All, map, reverse, take}
 use Rattle.std.proofs.lemmas.List.{map-append, reverse-append, length-reverse, length-map, length-take, length-append}
@@ -14,6 +16,7 @@ use Rattle.figure.specs.declared.Figure.{Figure}
 use Rattle.figure.specs.Rounding.{none}
 use Rattle.figure.specs.Operands.{Sized}
 use Rattle.figure.specs.Operations.{times_down, plus_up, divided_down, of_whole}
+use Rattle.figure.specs.Losses.{times_keeps, plus_keeps, divided_keeps}
 use Rattle.figure.proofs.Sized.{sized-≤}
 use Rattle.word.specs.Model.{Transition, Net, Model}
 use Rattle.model.specs.Index.{transition}
@@ -21,15 +24,18 @@ use Rattle.word.specs.Internal.Lists.{Each}
 use Rattle.model.specs.Internal.Valid.{ValidManner, Valid}
 use Rattle.tree.specs.Paths.{Path, Class, class1, class2, class3, class, counts_1, class1_count}
 use Rattle.tree.specs.States.{rate_sum}
-use Rattle.tree.specs.Upper.{share}
+use Rattle.tree.specs.Upper.{share, upper}
 use Rattle.tree.specs.Grains.{grains, grains_in, grain_sum}
 use Rattle.tree.specs.Lower.{lower_step, lower_product, add_rates, path_rate_sum}
+use Rattle.tree.specs.Marks.{rate_sum_kept, rates_kept_by, path_rates_kept, lower_step_kept, lower_product_kept}
 use Rattle.tree.proofs.Least.{GrainsOf, grains_of_class, grains_high}
 use Rattle.tree.proofs.Positive.{ValidSteps}
-use Rattle.tree.proofs.Ranges.{none_sized, class2_factor_sized, class3_factor_sized, class1_count-≤, lower_product_sized, path_rate_sum_sized}
+use Rattle.tree.proofs.Ranges.{none_sized, class2_factor_sized, class3_factor_sized, class1_count-≤, lower_product_sized, path_rate_sum_sized, any_upper_sized}
 use Rattle.tree.proofs.Steps.{class1_count_start, class1_count_more, grain_sum_start, grain_sum_more, lower_product_start, lower_product_more, path_rate_sum_start, path_rate_sum_more}
-use Rattle.tables.specs.Internal.Tables.{step_factor}
-use Rattle.tables.proofs.Classes.{step_valid, counts_none}
+use Rattle.tables.specs.Internal.Classes.{is_class1}
+use Rattle.tables.specs.Internal.Tables.{step_factor, step_factor_kept}
+use Rattle.tables.proofs.Classes.{step_valid, one_true, one_false, counts_none}
+use Rattle.path.proofs.Regrouped.{swapped, three}
 use Rattle.path.specs.Internal.Paths.{path_of, Known, own_grains}
 
 -- ---- the path of a slice
@@ -84,45 +90,77 @@ path_valid {m} valid (j ∷ l) k =
     rw (reverse-append (transition m.net j ∷ []) (map (transition m.net) l))
     (each_append (λ (t : Transition). ValidManner t.manner) (path_of m.net l) (transition m.net j ∷ []) (path_valid valid l (known_rest k)) ((step_valid valid (k.inside 0 0 (omega arith))).manner, tt))
 
--- ---- N' and A of a path
+-- ---- no step
 
-pub record SpentOn (net : Net) (p : Path) (n : ℕ) (a : Figure) : Type 0 where
-  pub grains_are : n ≡ grain_sum net (own_grains net) p
-  pub rates_are : a ≡ path_rate_sum net p
+module _ (net : Net) where
+  pub grains_none : grain_sum net (own_grains net) (path_of net []) ≡ 0
+  grains_none = rw (path_none net) (grain_sum_start net (own_grains net))
 
-pub spent_of : {net : Net} {p : Path} {n : ℕ} {a : Figure} → n ≡ grain_sum net (own_grains net) p → a ≡ path_rate_sum net p → SpentOn net p n a
-spent_of e f = record { grains_are = e; rates_are = f }
+  pub rates_none : path_rate_sum net (path_of net []) ≡ none
+  rates_none = rw (path_none net) (path_rate_sum_start net)
 
-pub spent_start : (net : Net) → SpentOn net [] 0 none
-spent_start net = record { grains_are = sym (grain_sum_start net (own_grains net)); rates_are = sym (path_rate_sum_start net) }
+  pub rates_kept_none : path_rates_kept net (path_of net []) ≡ true
+  unfolding path_rates_kept
+  rates_kept_none = rw (path_none net)
 
-module _ {net : Net} {p : Path} {n : ℕ} {a : Figure} (x : Transition) (so_far : SpentOn net p n a) where
-  -- a class 1 step adds E of the state that it leaves
-  pub spent_one : {e : Figure} → class net x ≡ class1 → e ≡ rate_sum net x.from → SpentOn net (x ∷ p) n (plus_up a e)
-  spent_one {e} c h = record {
-    grains_are = so_far.grains_are ∙ omega (arith, ap (λ (k : Class). grains_in k (own_grains net x)) c, grain_sum_more net x p (own_grains net));
-    rates_are =
-        ap (λ (b : Figure). plus_up b e) so_far.rates_are ∙ ap (plus_up (path_rate_sum net p)) h
-        ∙ sym (ap (λ (k : Class). add_rates k (path_rate_sum net p) (rate_sum net x.from)) c)
-        ∙ sym (path_rate_sum_more net x p);
-  }
+  pub ones_none : class1_count net (path_of net []) ≡ 0
+  ones_none = rw (path_none net) (class1_count_start net)
 
-  -- any other adds its grains
-  pub spent_other : {g : ℕ} → (class net x ≡ class1 → ⊥) → g ≡ grains net [] x → SpentOn net (x ∷ p) (n + g) a
-  spent_other {g} c h = record {
-    grains_are = omega (arith, so_far.grains_are, h, in_other (class net x) (own_grains net x) c, grain_sum_more net x p (own_grains net));
-    rates_are = so_far.rates_are ∙ rates_other (class net x) c ∙ sym (path_rate_sum_more net x p);
-  }
-    where
-      in_other : (k : Class) (g : ℕ) → (k ≡ class1 → ⊥) → grains_in k g ≡ g
-      in_other class1 g h = absurd (h refl)
-      in_other class2 g h = refl
-      in_other class3 g h = refl
+  pub product_none : (t : Figure) → lower_product net (own_grains net) t (path_of net []) ≡ of_whole 1
+  product_none t = rw (path_none net) (lower_product_start net (own_grains net) t)
 
-      rates_other : (k : Class) → (k ≡ class1 → ⊥) → path_rate_sum net p ≡ add_rates k (path_rate_sum net p) (rate_sum net x.from)
-      rates_other class1 h = absurd (h refl)
-      rates_other class2 h = refl
-      rates_other class3 h = refl
+  pub product_kept_none : (t : Figure) → lower_product_kept net (own_grains net) t (path_of net []) ≡ true
+  unfolding lower_product_kept
+  product_kept_none t = rw (path_none net)
+
+-- ---- one step more: N', A and k, by the step's class
+
+module _ (net : Net) (x : Transition) (p : Path) where
+  -- a class 1 step has no grains, adds E of the state that it leaves, and counts
+  module _ (c : class net x ≡ class1) where
+    pub grains_one : grain_sum net (own_grains net) (x ∷ p) ≡ grain_sum net (own_grains net) p
+    grains_one = omega (arith, ap (λ (k : Class). grains_in k (own_grains net x)) c, grain_sum_more net x p (own_grains net))
+
+    pub rates_one : path_rate_sum net (x ∷ p) ≡ plus_up (path_rate_sum net p) (rate_sum net x.from)
+    rates_one = path_rate_sum_more net x p ∙ ap (λ (k : Class). add_rates k (path_rate_sum net p) (rate_sum net x.from)) c
+
+    pub rates_kept_one : path_rates_kept net (x ∷ p)
+        ≡ (path_rates_kept net p && (rate_sum_kept net x.from && plus_keeps (path_rate_sum net p) (rate_sum net x.from)))
+    unfolding path_rates_kept
+    rates_kept_one = ap (λ (k : Class). rates_kept_by net k x.from (path_rate_sum net p) && path_rates_kept net p) c ∙ swapped _ (path_rates_kept net p)
+
+    pub ones_one : class1_count net (x ∷ p) ≡ class1_count net p + 1
+    ones_one = omega (arith, ap counts_1 c, class1_count_more net x p)
+
+  -- any other has its grains
+  module _ (c : class net x ≡ class1 → ⊥) where
+    pub grains_other : grain_sum net (own_grains net) (x ∷ p) ≡ grain_sum net (own_grains net) p + own_grains net x
+    grains_other = omega (arith, go (class net x) (own_grains net x) c, grain_sum_more net x p (own_grains net))
+      where
+        go : (k : Class) (g : ℕ) → (k ≡ class1 → ⊥) → grains_in k g ≡ g
+        go class1 g h = absurd (h refl)
+        go class2 g h = refl
+        go class3 g h = refl
+
+    pub rates_other : path_rate_sum net (x ∷ p) ≡ path_rate_sum net p
+    rates_other = path_rate_sum_more net x p ∙ go (class net x) c
+      where
+        go : (k : Class) → (k ≡ class1 → ⊥) → add_rates k (path_rate_sum net p) (rate_sum net x.from) ≡ path_rate_sum net p
+        go class1 h = absurd (h refl)
+        go class2 h = refl
+        go class3 h = refl
+
+    pub rates_kept_other : path_rates_kept net (x ∷ p) ≡ path_rates_kept net p
+    unfolding path_rates_kept
+    rates_kept_other = go (class net x) c
+      where
+        go : (k : Class) → (k ≡ class1 → ⊥) → (rates_kept_by net k x.from (path_rate_sum net p) && path_rates_kept net p) ≡ path_rates_kept net p
+        go class1 h = absurd (h refl)
+        go class2 h = refl
+        go class3 h = refl
+
+    pub ones_other : class1_count net (x ∷ p) ≡ class1_count net p
+    ones_other = omega (arith, counts_none (class net x) c, class1_count_more net x p)
 
 -- at most 1,000,000 grains a step
 pub grain_sum_high : (net : Net) (p : Path) → grain_sum net (own_grains net) p ≤ 1000000 * length p
@@ -136,54 +174,130 @@ grain_sum_high net (x ∷ p) = go (class net x) (own_grains net x) (grains_high 
     go class2 g h r = omega arith
     go class3 g h r = omega arith
 
-module _ {net : Net} {p : Path} {n : ℕ} {a : Figure} (so_far : SpentOn net p n a) (short : length p ≤ 24) where
-  pub spent_high : n ≤ 24000000
-  spent_high = omega (arith, so_far.grains_are, grain_sum_high net p)
+-- ---- one step more: the product of the factors and its mark, t being down(t)
 
--- ---- k and the product of the factors, t being down(t)
-
-pub record Multiplied (net : Net) (t : Figure) (p : Path) (k : ℕ) (f : Figure) : Type 0 where
-  pub ones_are : k ≡ class1_count net p
-  pub product_is : f ≡ lower_product net (own_grains net) t p
-
-pub multiplied_start : (net : Net) (t : Figure) → Multiplied net t [] 0 (of_whole 1)
-multiplied_start net t = record { ones_are = sym (class1_count_start net); product_is = sym (lower_product_start net (own_grains net) t) }
-
-module _ {net : Net} {t : Figure} {p : Path} {k : ℕ} {f : Figure} (x : Transition) (so_far : Multiplied net t p k f) where
-  count_one : class net x ≡ class1 → k + 1 ≡ class1_count net (x ∷ p)
-  count_one c = omega (arith, so_far.ones_are, ap counts_1 c, class1_count_more net x p)
+module _ (net : Net) (t : Figure) (x : Transition) (p : Path) where
+  abbrev below : Figure
+  below = lower_product net (own_grains net) t p
 
   -- a class 1 step: by its rate, by t, then divided by its number
-  pub multiplied_one : {s : Figure} → class net x ≡ class1 → s ≡ share x.manner
-      → Multiplied net t (x ∷ p) (k + 1) (divided_down (times_down (times_down f s) t) (of_whole (k + 1)))
-  unfolding lower_step
-  multiplied_one {s} c h = record {
-    ones_are = count_one c;
-    product_is =
-        ap (λ (i : ℕ). divided_down (times_down (times_down f s) t) (of_whole i)) (count_one c)
-        ∙ ap (λ (g : Figure). divided_down (times_down (times_down g s) t) (of_whole (class1_count net (x ∷ p)))) so_far.product_is
-        ∙ ap (λ (s : Figure). divided_down (times_down (times_down (lower_product net (own_grains net) t p) s) t) (of_whole (class1_count net (x ∷ p)))) h
-        ∙ sym (ap (λ (c : Class). lower_step net t c (class1_count net (x ∷ p)) (own_grains net x) x (lower_product net (own_grains net) t p)) c)
-        ∙ sym (lower_product_more net x p (own_grains net) t);
-  }
+  module _ (c : class net x ≡ class1) where
+    pub product_one : lower_product net (own_grains net) t (x ∷ p)
+        ≡ divided_down (times_down (times_down below (share x.manner)) t) (of_whole (class1_count net (x ∷ p)))
+    unfolding lower_step
+    product_one =
+        lower_product_more net x p (own_grains net) t
+        ∙ ap (λ (k : Class). lower_step net t k (class1_count net (x ∷ p)) (own_grains net x) x below) c
+
+    pub product_kept_one : lower_product_kept net (own_grains net) t (x ∷ p)
+        ≡ (((lower_product_kept net (own_grains net) t p && times_keeps below (share x.manner))
+        && times_keeps (times_down below (share x.manner)) t)
+        && divided_keeps (times_down (times_down below (share x.manner)) t) (of_whole (class1_count net (x ∷ p))))
+    unfolding lower_product_kept
+    product_kept_one =
+        ap (λ (k : Class). lower_step_kept net t k (class1_count net (x ∷ p)) (own_grains net x) x below && lower_product_kept net (own_grains net) t p) c
+        ∙ swapped _ (lower_product_kept net (own_grains net) t p)
+        ∙ sym (three (lower_product_kept net (own_grains net) t p) _ _ _)
 
   -- any other: by its factor
-  pub multiplied_other : {y : Figure} → (class net x ≡ class1 → ⊥) → y ≡ step_factor net (class net x) x → Multiplied net t (x ∷ p) k (times_down f y)
-  unfolding lower_step step_factor
-  multiplied_other {y} c h = record {
-    ones_are = omega (arith, so_far.ones_are, counts_none (class net x) c, class1_count_more net x p);
-    product_is =
-        ap (λ (g : Figure). times_down g y) so_far.product_is ∙ ap (times_down (lower_product net (own_grains net) t p)) h
-        ∙ factor_other (class net x) c
-        ∙ sym (lower_product_more net x p (own_grains net) t);
-  }
-    where
-      factor_other : (c : Class) → (c ≡ class1 → ⊥)
-          → times_down (lower_product net (own_grains net) t p) (step_factor net c x)
-          ≡ lower_step net t c (class1_count net (x ∷ p)) (own_grains net x) x (lower_product net (own_grains net) t p)
-      factor_other class1 h = absurd (h refl)
-      factor_other class2 h = refl
-      factor_other class3 h = refl
+  module _ (c : class net x ≡ class1 → ⊥) where
+    pub product_other : lower_product net (own_grains net) t (x ∷ p) ≡ times_down below (step_factor net (class net x) x)
+    unfolding lower_step step_factor
+    product_other = lower_product_more net x p (own_grains net) t ∙ go (class net x) c
+      where
+        go : (k : Class) → (k ≡ class1 → ⊥)
+            → lower_step net t k (class1_count net (x ∷ p)) (own_grains net x) x below ≡ times_down below (step_factor net k x)
+        go class1 h = absurd (h refl)
+        go class2 h = refl
+        go class3 h = refl
+
+    pub product_kept_other : lower_product_kept net (own_grains net) t (x ∷ p)
+        ≡ (lower_product_kept net (own_grains net) t p
+        && (step_factor_kept net (class net x) x && times_keeps below (step_factor net (class net x) x)))
+    unfolding lower_product_kept step_factor step_factor_kept
+    product_kept_other = go (class net x) c ∙ swapped _ (lower_product_kept net (own_grains net) t p)
+      where
+        go : (k : Class) → (k ≡ class1 → ⊥)
+            → (lower_step_kept net t k (class1_count net (x ∷ p)) (own_grains net x) x below && lower_product_kept net (own_grains net) t p)
+            ≡ ((step_factor_kept net k x && times_keeps below (step_factor net k x)) && lower_product_kept net (own_grains net) t p)
+        go class1 h = absurd (h refl)
+        go class2 h = refl
+        go class3 h = refl
+
+-- ---- the same, as a loop over the path has it: `Is x f k` says that x is the figure f, and that its mark, if it tells, is k
+
+-- the class of a step, by the code's test
+pub found_one : {a x : Class} {b : Bool} → a ≡ x → b ≡ is_class1 a → b ≡ true → x ≡ class1
+found_one {x = x} e test on = one_true x (sym (ap is_class1 e) ∙ sym test ∙ on)
+
+pub found_other : {a x : Class} {b : Bool} → a ≡ x → b ≡ is_class1 a → b ≡ false → x ≡ class1 → ⊥
+found_other {x = x} e test off = one_false x (sym (ap is_class1 e) ∙ sym test ∙ off)
+
+pub record SpentSoFar {T : Type 0} (Is : T → Figure → Bool → Type 0) (net : Net) (p : Path) (n : ℕ) (a : T) (k : ℕ) : Type 0 where
+  pub grains_are : n ≡ grain_sum net (own_grains net) p
+  pub rates_are : Is a (path_rate_sum net p) (path_rates_kept net p)
+  pub ones_are : k ≡ class1_count net p
+
+pub record ProductSoFar {T : Type 0} (Is : T → Figure → Bool → Type 0) (net : Net) (t : Figure) (p : Path) (k : ℕ) (f : T) : Type 0 where
+  pub ones_are : k ≡ class1_count net p
+  pub product_is : Is f (lower_product net (own_grains net) t p) (lower_product_kept net (own_grains net) t p)
+
+-- of figures that tell nothing
+abbrev pub Alone : Figure → Figure → Bool → Type 0
+Alone x f _ = x ≡ f
+
+pub spent_alone : {net : Net} {p : Path} {n k : ℕ} {a : Figure} → n ≡ grain_sum net (own_grains net) p → a ≡ path_rate_sum net p → k ≡ class1_count net p
+    → SpentSoFar Alone net p n a k
+spent_alone e f g = record { grains_are = e; rates_are = f; ones_are = g }
+
+module _ {T : Type 0} (Is : T → Figure → Bool → Type 0) (net : Net) where
+  pub spent_start : {z : Figure} {a : T} → z ≡ none → Is a z true → SpentSoFar Is net (path_of net []) 0 a 0
+  spent_start e h = record { grains_are = sym (grains_none net); rates_are = rw (rates_none net, rates_kept_none net, ← e) h; ones_are = sym (ones_none net) }
+
+  pub product_start : (t : Figure) {o : Figure} {f : T} → o ≡ of_whole 1 → Is f o true → ProductSoFar Is net t (path_of net []) 0 f
+  product_start t e h = record { ones_are = sym (ones_none net); product_is = rw (product_none net t, product_kept_none net t, ← e) h }
+
+  module _ (x : Transition) (p : Path) {n k : ℕ} {a : T} (so_far : SpentSoFar Is net p n a k) where
+    pub spent_one : {b : T} → class net x ≡ class1
+        → Is b
+        (plus_up (path_rate_sum net p) (rate_sum net x.from))
+        (path_rates_kept net p && (rate_sum_kept net x.from && plus_keeps (path_rate_sum net p) (rate_sum net x.from)))
+        → SpentSoFar Is net (x ∷ p) n b (k + 1)
+    spent_one c h = record {
+      grains_are = so_far.grains_are ∙ sym (grains_one net x p c);
+      rates_are = rw (rates_one net x p c, rates_kept_one net x p c) h;
+      ones_are = omega (arith, so_far.ones_are, ones_one net x p c);
+    }
+
+    pub spent_other : {g : ℕ} → (class net x ≡ class1 → ⊥) → g ≡ own_grains net x → SpentSoFar Is net (x ∷ p) (n + g) a k
+    spent_other c e = record {
+      grains_are = omega (arith, so_far.grains_are, e, grains_other net x p c);
+      rates_are = rw (rates_other net x p c, rates_kept_other net x p c) so_far.rates_are;
+      ones_are = so_far.ones_are ∙ sym (ones_other net x p c);
+    }
+
+  module _ (t : Figure) (x : Transition) (p : Path) {k : ℕ} {f : T} (so_far : ProductSoFar Is net t p k f) where
+    pub product_more_one : {o : Figure} {b : T} → class net x ≡ class1 → o ≡ of_whole (k + 1)
+        → Is b
+        (divided_down (times_down (times_down (below net t x p) (share x.manner)) t) o)
+        (((lower_product_kept net (own_grains net) t p && times_keeps (below net t x p) (share x.manner))
+        && times_keeps (times_down (below net t x p) (share x.manner)) t)
+        && divided_keeps (times_down (times_down (below net t x p) (share x.manner)) t) o)
+        → ProductSoFar Is net t (x ∷ p) (k + 1) b
+    product_more_one {o} c e h =
+        let count : k + 1 ≡ class1_count net (x ∷ p) = omega (arith, so_far.ones_are, ones_one net x p c) in
+        let whole : o ≡ of_whole (class1_count net (x ∷ p)) = e ∙ ap of_whole count in
+        record { ones_are = count; product_is = rw (product_one net t x p c, product_kept_one net t x p c, ← whole) h }
+
+    pub product_more_other : {b : T} → (class net x ≡ class1 → ⊥)
+        → Is b
+        (times_down (below net t x p) (step_factor net (class net x) x))
+        (lower_product_kept net (own_grains net) t p && (step_factor_kept net (class net x) x && times_keeps (below net t x p) (step_factor net (class net x) x)))
+        → ProductSoFar Is net t (x ∷ p) k b
+    product_more_other c h = record {
+      ones_are = so_far.ones_are ∙ sym (ones_other net x p c);
+      product_is = rw (product_other net t x p c, product_kept_other net t x p c) h;
+    }
 
 -- ---- ranges, in a valid model
 
@@ -200,17 +314,24 @@ module _ {m : Model} (valid : Valid m) {l : List ℕ} (known : Known m.net l) wh
   short : length (path_of m.net l) ≤ 24
   short = omega (arith, path_length m.net l, known.short)
 
-  pub grains_fit : {n : ℕ} {a : Figure} → SpentOn m.net (path_of m.net l) n a → n ≤ 24000000
-  grains_fit s = spent_high s short
+  pub upper_fine : Sized 9 20000 (upper m.net (path_of m.net l))
+  upper_fine = sized-≤ (lit≤ tt) (any_upper_sized valid (path_of m.net l) short (path_valid valid l known))
 
-  pub spent_sized : {n : ℕ} {a : Figure} → SpentOn m.net (path_of m.net l) n a → Sized 9 980 a
-  spent_sized s = rw s.rates_are (sized-≤ (omega (arith, short)) (path_rate_sum_sized valid (path_of m.net l)))
+  pub rates_fine : Sized 9 980 (path_rate_sum m.net (path_of m.net l))
+  rates_fine = sized-≤ (omega (arith, short)) (path_rate_sum_sized valid (path_of m.net l))
 
-  pub multiplied_sized : {t f : Figure} {k : ℕ} → Sized 9 100 t → Multiplied m.net t (path_of m.net l) k f → Sized 9 30000 f
-  multiplied_sized h s = rw s.product_is (sized-≤ (omega (arith, short))
-      (lower_product_sized valid (own_grains m.net) (path_of m.net l) (grains_of_class m.net []) short (path_valid valid l known) h))
+  pub product_fine : {t : Figure} → Sized 9 100 t → Sized 9 30000 (lower_product m.net (own_grains m.net) t (path_of m.net l))
+  product_fine h = sized-≤ (omega (arith, short))
+      (lower_product_sized valid (own_grains m.net) (path_of m.net l) (grains_of_class m.net []) short (path_valid valid l known) h)
 
--- before the entry at i, at most 23 class 1 steps
-pub ones_room : {net : Net} {l : List ℕ} {i k : ℕ} {t f : Figure} → Known net l → i < length l → Multiplied net t (path_of net (take i l)) k f → k < 24
-ones_room {net} {l} {i} known low s =
-    omega (arith, s.ones_are, class1_count-≤ net (path_of net (take i l)), path_length net (take i l), length-take i l, known.short)
+module _ {net : Net} {l : List ℕ} (known : Known net l) where
+  pub grains_fit : grain_sum net (own_grains net) (path_of net l) ≤ 24000000
+  grains_fit = omega (arith, grain_sum_high net (path_of net l), path_length net l, known.short)
+
+  -- before the entry at i, at most 23 class 1 steps
+  pub ones_room : {i k : ℕ} → i < length l → k ≡ class1_count net (path_of net (take i l)) → k < 24
+  ones_room {i} low e =
+      omega (arith, e, class1_count-≤ net (path_of net (take i l)), path_length net (take i l), length-take i l, known.short)
+
+  pub ones_few : {k : ℕ} → k ≡ class1_count net (path_of net l) → k ≤ 24
+  ones_few e = omega (arith, e, class1_count-≤ net (path_of net l), path_length net l, known.short)

@@ -1,7 +1,9 @@
 pub mod Lent
+pub mod OneProof
+pub mod Held
 pub mod Paths
 pub mod Counts
 pub mod Outcomes
 pub mod Exits
-pub mod Deaths
 pub mod Marks
+pub mod Deaths

@@ -1,15 +1,17 @@
 // One exit of the state at a path's end, and the end of the path beyond it.
-ghost use Rattle.std.specs.Prelude.{◌≡◌, ◌+◌, ◌<◌};
+ghost use Rattle.std.specs.Prelude.{◌≡◌, ◌+◌, ◌<◌, ◌&&◌, Bool, true};
+ghost use Rattle.figure.specs.declared.Figure.{Figure};
 ghost use Rattle.figure.specs.Operands.{Sized};
 ghost use Rattle.figure.specs.Operations as ops;
 ghost use Rattle.tables.specs.Internal.Classes.{class_for};
-ghost use Rattle.path.specs.Internal.Lent.{lent};
+ghost use Rattle.path.specs.Internal.Held.{lent_by};
 ghost use Rattle.path.specs.Internal.Exits.{ExitOf, ExitReady, tip_by, upper_by};
+ghost use Rattle.path.specs.Internal.Marks.{upper_by_kept};
 
-use figure::Figure;
-use model::index::{Index, slot, wide, word_of};
-use tables::class::{Class, class_of, counts_1};
-use tables::table::{Table, mean_up, share};
+use crate::prepared::Prepared;
+use figure::{Arithmetic, Direction, Figure};
+use model::index::{slot, wide, word_of};
+use tables::class::Class;
 use word::fields::{is_fast, to};
 
 // The end of a path: its last state, its rounded upper, its class 1 steps and its steps.
@@ -29,23 +31,26 @@ pub struct Exit {
     pub tip: Tip,
 }
 
-// U one step further: by a step of the class `class`, the nth of class 1 if it is of class 1, with its share, h of the state that it leaves and T.
-fn further(
+// U one step further: by a step of the class `class`, the nth of class 1 if it is of class 1, with its share, h of the state that it leaves and T. The walk
+// takes it for figures alone, the marks for figures that tell.
+pub(crate) fn further<A: Arithmetic>(
     class: Class,
-    nth: Figure,
-    upper: Figure,
-    share: Figure,
-    mean: Figure,
-    time: Figure,
-) -> Figure
-    requires { Sized 9 20000 upper × Sized 9 1000 share × Sized 9 1000 mean × Sized 9 1000 time × Sized 9 2000 nth × (0 < nth.digits) }
-    ensures { result ≡ upper_by (class_for class) nth upper share mean time }
+    nth: A,
+    upper: A,
+    share: A,
+    mean: A,
+    time: A,
+) -> A
+    requires { Sized 9 20000 (A.figure_of upper) × Sized 9 1000 (A.figure_of share) × Sized 9 1000 (A.figure_of mean) × Sized 9 1000 (A.figure_of time) × Sized 9 2000 (A.figure_of nth) × (0 < (A.figure_of nth).digits) }
+    ensures { (n u s m t : Figure) (k h : Bool) → A.Is nth n true → A.Is upper u k → A.Is share s true → A.Is mean m h → A.Is time t true → A.Is result (upper_by (class_for class) n u s m t) (k && upper_by_kept (class_for class) n u s m h t) }
 {
-    let by_share = upper.times_up(share);
+    let by_share = upper.times(share, Direction::Up);
     match class {
-        Class::Class1 => by_share.times_up(time).divided_up(nth),
+        Class::Class1 => by_share
+            .times(time, Direction::Up)
+            .divided(nth, Direction::Up),
         Class::Class2 => by_share,
-        Class::Class3 => by_share.times_up(mean),
+        Class::Class3 => by_share.times(mean, Direction::Up),
     }
 }
 
@@ -63,36 +68,27 @@ fn next_tip(
     requires nth_value { nth ≡ ops.of_whole (tip.ones + 1) }
     ensures { result ≡ tip_by tip (class_for class) to share mean time }
 {
-    let upper = tip.upper;
-    let next = further(class, nth, upper, share, mean, time);
+    let upper = further(class, nth, tip.upper, share, mean, time);
     Tip {
         state: to,
-        upper: next,
-        ones: counts_1(class) + tip.ones,
+        upper,
+        ones: class.counts_1() + tip.ones,
         len: tip.len + 1,
     }
 }
 
 // The exit i of the tip's state: its index stands in its slot, its kind and its target in its word; nth is the number of the next class 1 step.
-pub fn exit_at(
-    words: &[u32],
-    index: &Index,
-    table: &Table,
-    time: Figure,
-    tip: Tip,
-    nth: Figure,
-    i: usize,
-) -> Exit
-    requires { ExitReady (lent words.now index.now table.now) time tip i × (nth ≡ ops.of_whole (tip.ones + 1)) }
-    ensures { ExitOf (lent words.now index.now table.now) tip i result }
+pub fn exit_at(prepared: &Prepared, tip: Tip, nth: Figure, i: usize) -> Exit
+    requires { ExitReady (lent_by prepared.now) tip i × (nth ≡ ops.of_whole (tip.ones + 1)) }
+    ensures { ExitOf (lent_by prepared.now) tip i result }
 {
-    let s = tip.state;
-    let x = slot(index, s, i);
+    let x = slot(prepared.index, tip.state, i);
     let j = wide(x);
-    let w = word_of(words, index, j);
-    let mean = mean_up(table, s);
-    let class = class_of(is_fast(w), mean);
-    let next = next_tip(tip, nth, class, to(w), share(table, j), mean, time);
+    let w = word_of(prepared.words, prepared.index, j);
+    let mean = prepared.table.states[tip.state].mean_up.figure();
+    let class = Class::of(is_fast(w), mean);
+    let share = prepared.table.steps[j].share.figure();
+    let next = next_tip(tip, nth, class, to(w), share, mean, prepared.time);
     Exit {
         index: x,
         class,

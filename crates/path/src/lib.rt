@@ -7,3 +7,4 @@ pub mod exits;
 mod lower;
 pub mod marks;
 pub mod outcome;
+pub mod prepared;

@@ -6,12 +6,11 @@ use Rattle.figure.specs.Operations.{times_up, divided_up, of_whole}
 use Rattle.word.specs.Model.{Transition, Net}
 use Rattle.model.specs.Index.{transition, slot}
 use Rattle.tree.specs.Paths.{Class, class1, class2, class3, class, counts_1}
-use Rattle.tree.specs.States.{mission_time}
 use Rattle.tree.specs.Upper.{upper_step}
 use Rattle.tables.specs.Internal.Classes.{class_for}
 use Rattle.path.specs.declared.exits.Tip.{Tip}
 use Rattle.path.specs.declared.exits.Exit.{Exit}
-use Rattle.path.specs.Internal.Lent.{Lent, Filled, net_in}
+use Rattle.path.specs.Internal.Lent.{Lent, net_in}
 use Rattle.path.specs.Internal.Paths.{step_class}
 
 -- U one step further, by the step's class, its number n among class 1 steps, its share, h and T
@@ -36,10 +35,8 @@ tip_after net t tip =
     let k = counts_1 (class net t) + tip.ones in
     record { state = t.to; upper = upper_step net (class net t) k t tip.upper; ones = k; len = tip.len + 1 }
 
--- What exit i of the tip's state is read from: what is lent is the model's own, and U may be taken one step further.
-pub record ExitReady (l : Lent) (time : Figure) (tip : Tip) (i : ℕ) : Type 0 where
-  pub filled : Filled l
-  pub time_is : time ≡ mission_time (net_in l)
+-- What exit i of the tip's state is read from: it is there, and U may be taken one step further.
+pub record ExitReady (l : Lent) (tip : Tip) (i : ℕ) : Type 0 where
   pub few : i < 16
   pub index : slot l.index tip.state i < length (net_in l).table
   pub leaves : (transition (net_in l) (slot l.index tip.state i)).from ≡ tip.state

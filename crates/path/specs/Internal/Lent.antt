@@ -1,6 +1,7 @@
 -- What the walk and its parts are lent. Assumes nothing: these are definitions.
 use Rattle.std.specs.Prelude.{ℕ, List}
 use Rattle.word.specs.Model.{Net, Limits, Model}
+use Rattle.tables.specs.declared.table.Table.{Table}
 use Rattle.tables.specs.Internal.Described.{Indexes, described}
 use Rattle.tables.specs.Internal.Tables.{Tabled}
 
@@ -8,9 +9,9 @@ use Rattle.tables.specs.Internal.Tables.{Tabled}
 pub record Lent : Type 0 where
   pub words : List ℕ
   pub index : List ℕ
-  pub table : List ℕ
+  pub table : Table
 
-abbrev pub lent : List ℕ → List ℕ → List ℕ → Lent
+abbrev pub lent : List ℕ → List ℕ → Table → Lent
 lent words index table = record { words = words; index = index; table = table }
 
 -- the model that the words describe

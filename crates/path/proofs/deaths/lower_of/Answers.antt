@@ -8,23 +8,23 @@ use Rattle.path.proofs.deaths.lower_of.Goals as goal
 pub returns-in_default : goal.returns-in_default
 returns-in_default c = c.zero.ensures ∙ sym (lower_none _ _ _ _ c.in_default.is)
 
-pub times_down-requires-then-is_class1 : goal.times_down-requires-then-is_class1
-times_down-requires-then-is_class1 c =
-    let fine = sized_some c.in-Some.is c.requires.0 in (rw c.times_down.ensures (sized-≤ (lit≤ tt) (times_down_sized fine.product c.requires.1)), sized-≤ (lit≤ tt) fine.time)
+pub times-requires-then-is_class1 : goal.times-requires-then-is_class1
+times-requires-then-is_class1 c =
+    let fine = sized_some c.in-Some.is c.requires.0 in (rw c.times.ensures (sized-≤ (lit≤ tt) (times_down_sized fine.product c.requires.1)), sized-≤ (lit≤ tt) fine.time)
 
-pub divided_down-requires : goal.divided_down-requires
-divided_down-requires c =
+pub divided-requires : goal.divided-requires
+divided-requires c =
     let fine = sized_some c.in-Some.is c.requires.0 in (
-      rw (c.times_down-then-is_class1.ensures, c.times_down.ensures)
+      rw (c.times-then-is_class1.ensures, c.times.ensures)
           (sized-≤ (lit≤ tt) (times_down_sized (times_down_sized fine.product c.requires.1) fine.time)),
       sized-≤ (lit≤ tt) c.requires.3,
       c.requires.4,
     )
 
-pub times_down-requires-then-is_class1-2 : goal.times_down-requires-then-is_class1-2
-times_down-requires-then-is_class1-2 c =
+pub times-requires-then-is_class1-2 : goal.times-requires-then-is_class1-2
+times-requires-then-is_class1-2 c =
     let fine = sized_some c.in-Some.is c.requires.0 in (
-      rw (c.divided_down.ensures, c.times_down-then-is_class1.ensures, c.times_down.ensures)
+      rw (c.divided.ensures, c.times-then-is_class1.ensures, c.times.ensures)
           (sized-≤ (lit≤ tt) (divided_down_sized (times_down_sized
           (times_down_sized fine.product c.requires.1) fine.time) c.requires.3 c.requires.4)),
       sized-≤ (lit≤ tt) fine.last,
@@ -32,14 +32,14 @@ times_down-requires-then-is_class1-2 c =
 
 pub returns-then-is_class1 : goal.returns-then-is_class1
 returns-then-is_class1 c =
-    rw (c.times_down-then-is_class1-2.ensures, c.divided_down.ensures, c.times_down-then-is_class1.ensures, c.times_down.ensures)
+    rw (c.times-then-is_class1-2.ensures, c.divided.ensures, c.times-then-is_class1.ensures, c.times.ensures)
     (sym (lower_one _ _ _ _ c.in-Some.is (sym c.is_class1.ensures ∙ c.if-is_class1.true)))
 
-pub times_down-requires-3 : goal.times_down-requires-3
-times_down-requires-3 c =
-    let fine = sized_some c.in-Some.is c.requires.0 in (rw c.times_down-2.ensures (sized-≤ (lit≤ tt) (times_down_sized fine.product c.requires.2)), sized-≤ (lit≤ tt) fine.last)
+pub times-requires-3 : goal.times-requires-3
+times-requires-3 c =
+    let fine = sized_some c.in-Some.is c.requires.0 in (rw c.times-2.ensures (sized-≤ (lit≤ tt) (times_down_sized fine.product c.requires.2)), sized-≤ (lit≤ tt) fine.last)
 
 pub returns : goal.returns
 returns c =
-    rw (c.times_down-3.ensures, c.times_down-2.ensures) (sym (lower_other _ _ _ _ c.in-Some.is
+    rw (c.times-3.ensures, c.times-2.ensures) (sym (lower_other _ _ _ _ c.in-Some.is
     (sym c.is_class1.ensures ∙ c.if-is_class1.false)))

@@ -1,60 +1,61 @@
 -- `new_stem` meets its contract: N', A and k of the path with its last step are those without it and what the step adds. Assumes nothing.
-use mathlib.Core.Path.{◌≡◌, ap, ◌∙◌}
+use mathlib.Core.Bool.{true}
+use mathlib.Core.Path.{refl}
 use native.Mathlib.Omega.{arith}
 use lib.Dec.{lit≤}
-use Rattle.figure.proofs.Sized.{sized-≤, plus_up_sized}
-use Rattle.tables.specs.Internal.Described.{net_of}
-use Rattle.tables.specs.Internal.Tables.{grain_count_in}
-use Rattle.path.specs.Internal.Lent.{lent}
-use Rattle.path.specs.Internal.Paths.{path_of}
-use Rattle.path.specs.Internal.Deaths.{LastStep}
-use Rattle.path.proofs.PathSums.{spent_of}
-use Rattle.path.proofs.PathSteps.{state_held_small, rate_held, rate_held_sized, grains_held, grains_held_high}
-use Rattle.path.proofs.DeathStems.{ones_high, so_far_sized, so_far_high, stem_one, stem_other}
+use Rattle.figure.proofs.Sized.{sized-≤}
+use Rattle.path.proofs.PathSums.{spent_alone, rates_fine, grains_fit, ones_few}
+use Rattle.path.proofs.PathSteps.{rate_fine}
+use Rattle.path.proofs.DeathStems.{with_one, with_other, with_sized, with_few, with_stem, stem_is_at, stem_sized}
 use Rattle.path.proofs.deaths.new_stem.Goals as goal
+use Rattle.path.proofs.deaths.new_stem.Goals.{then-is_class1, else-is_class1}
 
-pub rate_sum-requires : goal.rate_sum-requires
-rate_sum-requires c =
-    let h = c.requires in state_held_small h.filled h.index h.leaves
-
-pub plus_up-more-requires : goal.plus_up-more-requires
-plus_up-more-requires c =
-    let so_far = spent_of c.spent_on-so_far.ensures.grains_value c.spent_on-so_far.ensures.rates_value in
-    let h = c.requires in (sized-≤ (lit≤ tt) (so_far_sized h so_far), sized-≤ (lit≤ tt) (rate_held_sized h.filled h.index h.leaves c.rate_sum.ensures))
-
-pub overflow_add-ones : goal.overflow_add-ones
-overflow_add-ones c =
-    omega (arith, ones_high c.requires)
-
-pub stem_of_sums-requires-clause-time_value : goal.stem_of_sums-requires-clause-time_value
-stem_of_sums-requires-clause-time_value c =
-    let so_far = spent_of c.spent_on-so_far.ensures.grains_value c.spent_on-so_far.ensures.rates_value in
-    let h = c.requires in (
-      h.time_is,
-      rw c.plus_up-more.ensures (plus_up_sized (so_far_sized h so_far) (rate_held_sized h.filled h.index h.leaves c.rate_sum.ensures)),
-      omega (arith, ones_high h),
+pub plus-spent-requires : goal.plus-spent-requires
+plus-spent-requires c =
+    let filled = c.args.prepared.now.filled in let rate = rw c.from-j.ensures at c.rate_sum.ensures in (
+      rw c.spent_on-spent.ensures.rates_value (sized-≤ (lit≤ tt) (rates_fine filled.indexes.valid c.requires.known)),
+      rw rate (sized-≤ (lit≤ tt) (rate_fine filled c.requires.index)),
     )
 
-pub returns-then-is_class1-clause-stem_is : goal.returns-then-is_class1-clause-stem_is
-returns-then-is_class1-clause-stem_is c =
-    let so_far = spent_of c.spent_on-so_far.ensures.grains_value c.spent_on-so_far.ensures.rates_value in
-    let h = c.requires in stem_one h so_far c.is_class1.ensures c.if-is_class1.true
-    (rate_held h.filled h.index h.leaves c.rate_sum.ensures) c.plus_up-more.ensures c.stem_of_sums.ensures.stem_is
+pub overflow_add-spent : goal.overflow_add-spent
+overflow_add-spent c = omega (arith, ones_few c.requires.known c.spent_on-spent.ensures.ones_value)
 
-pub overflow_add-all : goal.overflow_add-all
-overflow_add-all c =
-    let grains_are = rw c.from.ensures at c.grains.ensures in
-    let so_far = spent_of c.spent_on-so_far.ensures.grains_value c.spent_on-so_far.ensures.rates_value in
-    let h = c.requires in omega (arith, grains_held_high h.filled h.index grains_are, so_far_high h so_far)
+pub overflow_add-spent-else-is_class1 : goal.overflow_add-spent-else-is_class1
+overflow_add-spent-else-is_class1 c = omega (arith, c.spent_on-spent.ensures.grains_value, grains_fit c.requires.known, c.grains.ensures.1)
 
-pub stem_of_sums-requires-2-clause-time_value : goal.stem_of_sums-requires-2-clause-time_value
-stem_of_sums-requires-2-clause-time_value c =
-    let so_far = spent_of c.spent_on-so_far.ensures.grains_value c.spent_on-so_far.ensures.rates_value in
-    let h = c.requires in (h.time_is, sized-≤ (lit≤ tt) (so_far_sized h so_far), omega (arith, ones_high h))
+pub stem_of-requires : goal.stem_of-requires
+stem_of-requires c =
+    let filled = c.args.prepared.now.filled in
+    let so_far = spent_alone c.spent_on-spent.ensures.grains_value c.spent_on-spent.ensures.rates_value c.spent_on-spent.ensures.ones_value in
+    elim c.if-is_class1.branch [
+      | then-is_class1 w ↦
+          let rate = rw c.from-j.ensures at w.rate_sum.ensures in
+          let spent = with_one filled c.requires so_far c.is_class1.ensures w.if-is_class1.true rate w.plus-spent.ensures in
+          rw w.spent-is (c.requires.known, with_sized filled c.requires spent, with_few filled c.requires spent)
+      | else-is_class1 w ↦
+          let grains = rw c.from-j.ensures at w.grains.ensures.0 in
+          let spent = with_other filled c.requires so_far c.is_class1.ensures w.if-is_class1.false grains in
+          rw w.spent-is (c.requires.known, with_sized filled c.requires spent, with_few filled c.requires spent)
+    ]
 
-pub returns-clause-stem_is : goal.returns-clause-stem_is
-returns-clause-stem_is c =
-    let grains_are = rw c.from.ensures at c.grains.ensures in
-    let so_far = spent_of c.spent_on-so_far.ensures.grains_value c.spent_on-so_far.ensures.rates_value in
-    let h = c.requires in stem_other h so_far c.is_class1.ensures c.if-is_class1.false
-    (grains_held h.filled h.index grains_are) c.stem_of_sums-2.ensures.stem_is
+pub returns : goal.returns
+returns c =
+    let filled = c.args.prepared.now.filled in
+    let so_far = spent_alone c.spent_on-spent.ensures.grains_value c.spent_on-spent.ensures.rates_value c.spent_on-spent.ensures.ones_value in
+    let at = stem_is_at _ _ _ _ true _ _ (c.stem_of.ensures _ true refl) in
+    elim c.if-is_class1.branch [
+      | then-is_class1 w ↦
+          let rate = rw c.from-j.ensures at w.rate_sum.ensures in
+          let spent = with_one filled c.requires so_far c.is_class1.ensures w.if-is_class1.true rate w.plus-spent.ensures in
+          let is = rw w.spent-is at at in record {
+            stem_is = with_stem filled c.requires spent is;
+            stem_sized = stem_sized filled.indexes.valid _ _ _ c.requires.known (with_sized filled c.requires spent) (with_few filled c.requires spent) is;
+          }
+      | else-is_class1 w ↦
+          let grains = rw c.from-j.ensures at w.grains.ensures.0 in
+          let spent = with_other filled c.requires so_far c.is_class1.ensures w.if-is_class1.false grains in
+          let is = rw w.spent-is at at in record {
+            stem_is = with_stem filled c.requires spent is;
+            stem_sized = stem_sized filled.indexes.valid _ _ _ c.requires.known (with_sized filled c.requires spent) (with_few filled c.requires spent) is;
+          }
+    ]

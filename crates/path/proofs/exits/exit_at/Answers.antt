@@ -1,35 +1,31 @@
 -- `exit_at` meets its contract. Assumes nothing.
 use mathlib.Core.Path.{◌∙◌}
-use Rattle.path.proofs.ExitReading.{state_small, time_sized, mean_sized, exit_small, exit_inside, exit_share_sized, exit_of}
+use native.Mathlib.Omega.{arith}
+use Rattle.path.proofs.ExitReading.{state_small, time_sized, mean_sized, exit_share_sized, exit_of}
 use Rattle.path.proofs.exits.exit_at.Goals as goal
 
 pub slot-x-requires : goal.slot-x-requires
-slot-x-requires c = (state_small c.requires.0, c.requires.0.few)
+slot-x-requires c = (state_small c.args.prepared.now.filled c.args.prepared.now.time_is c.requires.0, c.requires.0.few)
 
-pub word_of-w-requires : goal.word_of-w-requires
-word_of-w-requires c = let j = c.wide-j.ensures.0 ∙ c.slot-x.ensures in (exit_small c.requires.0 j, exit_inside c.requires.0 j)
+pub offset_bounds-prepared-tip : goal.offset_bounds-prepared-tip
+offset_bounds-prepared-tip c = omega (arith, state_small c.args.prepared.now.filled c.args.prepared.now.time_is c.requires.0)
 
-pub mean_up-mean-requires : goal.mean_up-mean-requires
-mean_up-mean-requires c = state_small c.requires.0
+pub bounds-prepared-tip : goal.bounds-prepared-tip
+bounds-prepared-tip c = omega (arith, state_small c.args.prepared.now.filled c.args.prepared.now.time_is c.requires.0)
 
-pub share-requires : goal.share-requires
-share-requires c = exit_small c.requires.0 (c.wide-j.ensures.0 ∙ c.slot-x.ensures)
-
-pub next_tip-next-requires : goal.next_tip-next-requires
-next_tip-next-requires c =
-    let j = c.wide-j.ensures.0 ∙ c.slot-x.ensures in record {
-      sized = (
-        c.requires.0.upper,
-        exit_share_sized c.requires.0 j c.share.ensures,
-        mean_sized c.requires.0 c.mean_up-mean.ensures,
-        time_sized c.requires.0,
-        c.requires.0.ones,
-        c.requires.0.room,
-      );
-      nth_value = c.requires.1;
-    }
+pub next_tip-next-requires-clause-sized : goal.next_tip-next-requires-clause-sized
+next_tip-next-requires-clause-sized c =
+    let filled = c.args.prepared.now.filled in let time_is = c.args.prepared.now.time_is in let h = c.requires.0 in
+    let j = c.wide-j.ensures.0 ∙ c.slot-x.ensures in (
+      h.upper,
+      exit_share_sized filled time_is h j c.figure-share.ensures,
+      mean_sized filled time_is h c.figure-mean.ensures,
+      time_sized filled time_is h,
+      h.ones,
+      h.room,
+    )
 
 pub returns : goal.returns
 returns c =
-    exit_of c.requires.0 (c.wide-j.ensures.0 ∙ c.slot-x.ensures) c.word_of-w.ensures c.slot-x.ensures c.is_fast.ensures c.class_of-class.ensures
-    c.to.ensures.value c.share.ensures c.mean_up-mean.ensures c.next_tip-next.ensures
+    exit_of c.args.prepared.now.filled c.args.prepared.now.time_is c.requires.0 (c.wide-j.ensures.0 ∙ c.slot-x.ensures) c.word_of-w.ensures c.slot-x.ensures
+    c.is_fast.ensures c.of-class.ensures c.to.ensures.value c.figure-share.ensures c.figure-mean.ensures c.next_tip-next.ensures

@@ -1,36 +1,45 @@
--- `further` meets its contract: the figures on the way are operands, and the results go by the class. Assumes nothing.
-use mathlib.Core.Path.{sym, ap, ◌∙◌}
+-- `further` meets its contract: every figure on the way is an operand, and the operations' marks come one after the other. Assumes nothing.
+use mathlib.Core.Path.{subst}
 use lib.Dec.{lit≤}
-use Rattle.figure.proofs.Sized.{sized-≤}
 use Rattle.figure.specs.Operations.{times_up, divided_up}
-use Rattle.tables.specs.Internal.Classes.{class_for}
+use Rattle.figure.proofs.Sized.{sized-≤, times_up_sized}
 use Rattle.path.specs.Internal.Exits.{upper_by}
-use Rattle.path.proofs.ExitTips.{by_share_operand, by_time_operand, small_operand}
+use Rattle.path.specs.Internal.Marks.{upper_by_kept}
+use Rattle.path.proofs.Regrouped.{three, between}
 use Rattle.path.proofs.exits.further.Goals as goal
 
-pub times_up-requires : goal.times_up-requires
-times_up-requires c = (by_share_operand c.requires.0 c.requires.1 c.times_up-by_share.ensures, small_operand c.requires.3)
+pub times-requires : goal.times-requires
+times-requires g c = (
+  rw c.times-by_share.ensures.figure_value (sized-≤ (lit≤ tt) (times_up_sized c.requires.0 c.requires.1)),
+  sized-≤ (lit≤ tt) c.requires.3,
+)
 
-pub divided_up-requires : goal.divided_up-requires
-divided_up-requires c =
-    (by_time_operand c.requires.0 c.requires.1 c.times_up-by_share.ensures c.requires.3 c.times_up.ensures, sized-≤ (lit≤ tt) c.requires.4, c.requires.5)
+pub divided-requires : goal.divided-requires
+divided-requires g c = (
+  rw (c.times.ensures.figure_value, c.times-by_share.ensures.figure_value)
+      (sized-≤ (lit≤ tt) (times_up_sized (times_up_sized c.requires.0 c.requires.1) c.requires.3)),
+  sized-≤ (lit≤ tt) c.requires.4,
+  c.requires.5,
+)
 
-pub times_up-requires-in-Class3 : goal.times_up-requires-in-Class3
-times_up-requires-in-Class3 c = (by_share_operand c.requires.0 c.requires.1 c.times_up-by_share.ensures, small_operand c.requires.2)
+pub times-requires-in-Class3 : goal.times-requires-in-Class3
+times-requires-in-Class3 g c = (
+  rw c.times-by_share.ensures.figure_value (sized-≤ (lit≤ tt) (times_up_sized c.requires.0 c.requires.1)),
+  sized-≤ (lit≤ tt) c.requires.2,
+)
 
 pub returns-in-Class1 : goal.returns-in-Class1
-unfolding upper_by
-returns-in-Class1 c =
-    c.divided_up.ensures ∙ ap (λ f. divided_up f c.args.nth) (c.times_up.ensures ∙ ap (λ f. times_up f c.args.time) c.times_up-by_share.ensures)
-    ∙ sym (ap (λ x. upper_by (class_for x) c.args.nth c.args.upper c.args.share c.args.mean c.args.time) c.in-Class1.is)
+unfolding upper_by upper_by_kept
+returns-in-Class1 g c = λ n u s m t k h nth upper share mean time. rw c.in-Class1.is
+    (subst (λ b. g.A.Arithmetic.Is c.divided.result (divided_up (times_up (times_up u s) t) n) b) (three k _ _ _)
+    (c.divided.ensures.mark_value _ _ _ _ (c.times.ensures.mark_value _ _ _ _ (c.times-by_share.ensures.mark_value _ _ _ _ upper share) time) nth))
 
 pub returns-in-Class2 : goal.returns-in-Class2
-unfolding upper_by
-returns-in-Class2 c =
-    c.times_up-by_share.ensures ∙ sym (ap (λ x. upper_by (class_for x) c.args.nth c.args.upper c.args.share c.args.mean c.args.time) c.in-Class2.is)
+unfolding upper_by upper_by_kept
+returns-in-Class2 g c = λ n u s m t k h nth upper share mean time. rw c.in-Class2.is (c.times-by_share.ensures.mark_value _ _ _ _ upper share)
 
 pub returns-in-Class3 : goal.returns-in-Class3
-unfolding upper_by
-returns-in-Class3 c =
-    c.times_up-in-Class3.ensures ∙ ap (λ f. times_up f c.args.mean) c.times_up-by_share.ensures
-    ∙ sym (ap (λ x. upper_by (class_for x) c.args.nth c.args.upper c.args.share c.args.mean c.args.time) c.in-Class3.is)
+unfolding upper_by upper_by_kept
+returns-in-Class3 g c = λ n u s m t k h nth upper share mean time. rw c.in-Class3.is
+    (subst (λ b. g.A.Arithmetic.Is c.times-in-Class3.result (times_up (times_up u s) m) b) (between k _ h _)
+    (c.times-in-Class3.ensures.mark_value _ _ _ _ (c.times-by_share.ensures.mark_value _ _ _ _ upper share) mean))

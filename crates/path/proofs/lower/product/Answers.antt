@@ -1,88 +1,83 @@
 -- `product` meets its contract. The loop's invariant: k and the product are those of the path so far. Assumes nothing.
-use Prim.Native.Nat.{◌<◌}
-use mathlib.Core.Path.{◌≡◌, sym, ◌∙◌}
 use native.Mathlib.Nat.{le_trans}
 use native.Mathlib.Omega.{arith}
 use lib.Dec.{lit≤}
-use lib.ListN.{length}
-use Rattle.figure.specs.Operands.{Sized}
 use Rattle.figure.proofs.Sized.{sized-≤, times_down_sized}
 use Rattle.tree.proofs.Positive.{of_whole_above}
 use Rattle.tree.proofs.Ranges.{count_sized}
-use Rattle.tables.specs.Internal.Classes.{is_class1}
 use Rattle.tables.specs.Internal.Described.{net_of}
-use Rattle.std.proofs.Common.{take}
-use Rattle.std.proofs.lemmas.List.{length-take}
-use Rattle.tables.proofs.Classes.{one_true, one_false}
-use Rattle.path.specs.Internal.Lent.{Filled, lent}
-use Rattle.path.specs.Internal.Paths.{Known, step_class}
-use Rattle.path.proofs.PathSums.{path_none, path_more, known_take, entry_inside, multiplied_start, multiplied_one, multiplied_other, multiplied_sized, ones_room}
-use Rattle.path.proofs.PathSteps.{step_small, share_held, share_held_sized, factor_held, factor_held_sized}
+use Rattle.path.proofs.PathSums.{path_more, known_take, entry_inside, product_fine, ones_room}
+use Rattle.path.proofs.PathSums.{found_one, found_other, product_start, product_more_one, product_more_other}
+use Rattle.path.proofs.PathSteps.{share_fine, factor_fine}
 use Rattle.path.proofs.lower.product.Goals as goal
 use Rattle.path.proofs.lower.product.Goals.{then-is_class1, else-is_class1}
 
 pub loop-x-init : goal.loop-x-init
-loop-x-init c = rw (path_none, c.of_whole-p.ensures) (multiplied_start _ _)
+loop-x-init g c = product_start g.A.Arithmetic.Is _ _ c.of_whole.ensures c.exact-p.ensures.mark_value
 
 pub overflow_add-k : goal.overflow_add-k
-overflow_add-k c =
-    let so_far_known = known_take c.loop-x.x-index c.requires.1 in
-    let more_ones = ones_room c.requires.1 c.loop-x-test.true c.loop-x.invariant in
-    omega (arith, more_ones)
+overflow_add-k g c = omega (arith, ones_room c.requires.0 c.loop-x-test.true c.loop-x.invariant.ones_are)
 
-pub times_down-requires : goal.times_down-requires
-times_down-requires c =
-    let inside = entry_inside c.requires.1 c.loop-x-test.true c.from-j.ensures in
-    let share_sized : Sized 9 40 c.share.result = share_held_sized c.requires.0 inside c.share.ensures in
-    let so_far_known = known_take c.loop-x.x-index c.requires.1 in
-    let so_far_sized : Sized 9 30000 c.loop-x.p = multiplied_sized c.requires.0.indexes.valid so_far_known c.requires.2 c.loop-x.invariant in
-    (sized-≤ (lit≤ tt) so_far_sized, sized-≤ (lit≤ tt) share_sized)
-
-pub times_down-requires-then-is_class1 : goal.times_down-requires-then-is_class1
-times_down-requires-then-is_class1 c =
-    let inside = entry_inside c.requires.1 c.loop-x-test.true c.from-j.ensures in
-    let share_sized : Sized 9 40 c.share.result = share_held_sized c.requires.0 inside c.share.ensures in
-    let so_far_known = known_take c.loop-x.x-index c.requires.1 in
-    let so_far_sized : Sized 9 30000 c.loop-x.p = multiplied_sized c.requires.0.indexes.valid so_far_known c.requires.2 c.loop-x.invariant in
-    (rw c.times_down.ensures (sized-≤ (lit≤ tt) (times_down_sized so_far_sized share_sized)), sized-≤ (lit≤ tt) c.requires.2)
-
-pub divided_down-p-requires : goal.divided_down-p-requires
-divided_down-p-requires c =
-    let inside = entry_inside c.requires.1 c.loop-x-test.true c.from-j.ensures in
-    let share_sized : Sized 9 40 c.share.result = share_held_sized c.requires.0 inside c.share.ensures in
-    let so_far_known = known_take c.loop-x.x-index c.requires.1 in
-    let so_far_sized : Sized 9 30000 c.loop-x.p = multiplied_sized c.requires.0.indexes.valid so_far_known c.requires.2 c.loop-x.invariant in
-    let more_ones = ones_room c.requires.1 c.loop-x-test.true c.loop-x.invariant in (
-      rw (c.times_down-then-is_class1.ensures, c.times_down.ensures)
-          (sized-≤ (lit≤ tt) (times_down_sized (times_down_sized so_far_sized share_sized) c.requires.2)),
-      rw c.of_whole.ensures
-          (sized-≤ (lit≤ tt) (count_sized _ (le_trans {m = 24} (omega (arith, more_ones)) (lit≤ tt)))),
-      rw c.of_whole.ensures (of_whole_above _ (omega arith)),
+pub times-requires : goal.times-requires
+times-requires g c =
+    let inside = entry_inside c.requires.0 c.loop-x-test.true c.from-j.ensures in let filled = c.args.prepared.now.filled in (
+      rw (g.met.A.Arithmetic.figure_is _ _ _ c.loop-x.invariant.product_is)
+          (sized-≤ (lit≤ tt) (product_fine filled.indexes.valid (known_take _ c.requires.0) c.requires.1)),
+      rw (g.met.A.Arithmetic.figure_is _ _ _ c.share.ensures)
+          (sized-≤ (lit≤ tt) (share_fine filled inside)),
     )
 
-pub times_down-p-requires : goal.times_down-p-requires
-times_down-p-requires c =
-    let so_far_known = known_take c.loop-x.x-index c.requires.1 in
-    let so_far_sized : Sized 9 30000 c.loop-x.p = multiplied_sized c.requires.0.indexes.valid so_far_known c.requires.2 c.loop-x.invariant in
-    let inside = entry_inside c.requires.1 c.loop-x-test.true c.from-j.ensures in
-    (sized-≤ (lit≤ tt) so_far_sized, sized-≤ (lit≤ tt) (factor_held_sized c.requires.0 inside c.factor.ensures))
+pub times-requires-then-is_class1 : goal.times-requires-then-is_class1
+times-requires-then-is_class1 g c =
+    let inside = entry_inside c.requires.0 c.loop-x-test.true c.from-j.ensures in let filled = c.args.prepared.now.filled in (
+      rw (
+        c.times.ensures.figure_value,
+        g.met.A.Arithmetic.figure_is _ _ _ c.loop-x.invariant.product_is,
+        g.met.A.Arithmetic.figure_is _ _ _ c.share.ensures,
+      )
+          (sized-≤ (lit≤ tt)
+          (times_down_sized (product_fine filled.indexes.valid (known_take _ c.requires.0) c.requires.1) (share_fine filled inside))),
+      rw c.exact-time.ensures.figure_value
+          (sized-≤ (lit≤ tt) c.requires.1),
+    )
+
+pub divided-p-requires : goal.divided-p-requires
+divided-p-requires g c =
+    let inside = entry_inside c.requires.0 c.loop-x-test.true c.from-j.ensures in let filled = c.args.prepared.now.filled in
+    let room = ones_room c.requires.0 c.loop-x-test.true c.loop-x.invariant.ones_are in (
+      rw (
+        c.times-then-is_class1.ensures.figure_value,
+        c.times.ensures.figure_value,
+        c.exact-time.ensures.figure_value,
+        g.met.A.Arithmetic.figure_is _ _ _ c.loop-x.invariant.product_is,
+        g.met.A.Arithmetic.figure_is _ _ _ c.share.ensures,
+      )
+          (sized-≤ (lit≤ tt)
+          (times_down_sized (times_down_sized (product_fine filled.indexes.valid (known_take _ c.requires.0) c.requires.1) (share_fine filled inside))
+          c.requires.1)),
+      rw (c.exact.ensures.figure_value, c.of_whole-then-is_class1.ensures)
+          (sized-≤ (lit≤ tt) (count_sized _ (le_trans {m = 24} (omega (arith, room)) (lit≤ tt)))),
+      rw (c.exact.ensures.figure_value, c.of_whole-then-is_class1.ensures) (of_whole_above _ (omega arith)),
+    )
+
+pub times-p-requires : goal.times-p-requires
+times-p-requires g c =
+    let inside = entry_inside c.requires.0 c.loop-x-test.true c.from-j.ensures in let filled = c.args.prepared.now.filled in (
+      rw (g.met.A.Arithmetic.figure_is _ _ _ c.loop-x.invariant.product_is)
+          (sized-≤ (lit≤ tt) (product_fine filled.indexes.valid (known_take _ c.requires.0) c.requires.1)),
+      rw (g.met.A.Arithmetic.figure_is _ _ _ c.factor.ensures)
+          (sized-≤ (lit≤ tt) (factor_fine filled inside)),
+    )
 
 pub loop-x-preserved : goal.loop-x-preserved
-loop-x-preserved c =
-    let tested : c.is_class1.result ≡ is_class1 (step_class (net_of c.args.words.now) c.from-j.result) =
-    rw c.left_by-step.ensures.class_value at c.is_class1.ensures in
-    let inside = entry_inside c.requires.1 c.loop-x-test.true c.from-j.ensures in rw (path_more _ c.args.path.now _ c.loop-x-test.true c.from-j.ensures)
+loop-x-preserved g c =
+    rw (path_more (net_of c.args.prepared.now.words.now) c.args.path.now c.loop-x.x-index c.loop-x-test.true c.from-j.ensures)
     (elim c.if-is_class1.branch [
-      | then-is_class1 w ↦ rw (
-        w.p-is,
-        w.k-is,
-        w.divided_down-p.ensures,
-        w.of_whole.ensures,
-        w.times_down-then-is_class1.ensures,
-        w.times_down.ensures,
-      )
-          (multiplied_one _ c.loop-x.invariant (one_true _ (sym tested ∙ w.if-is_class1.true)) (share_held c.requires.0 inside w.share.ensures))
-      | else-is_class1 w
-          ↦ rw (w.p-is, w.k-is, w.times_down-p.ensures) (multiplied_other _ c.loop-x.invariant (one_false _ (sym tested ∙ w.if-is_class1.false))
-          (factor_held c.requires.0 inside w.factor.ensures))
+      | then-is_class1 w ↦ rw (w.k-is, w.p-is) (product_more_one g.A.Arithmetic.Is _ _ _ _ c.loop-x.invariant
+          (found_one c.leaving.ensures.class_value c.is_class1.ensures w.if-is_class1.true) w.of_whole-then-is_class1.ensures
+          (w.divided-p.ensures.mark_value _ _ _ _ (w.times-then-is_class1.ensures.mark_value _ _ _ _
+          (w.times.ensures.mark_value _ _ _ _ c.loop-x.invariant.product_is w.share.ensures) c.exact-time.ensures.mark_value) w.exact.ensures.mark_value))
+      | else-is_class1 w ↦ rw (w.k-is, w.p-is) (product_more_other g.A.Arithmetic.Is _ _ _ _ c.loop-x.invariant
+          (found_other c.leaving.ensures.class_value c.is_class1.ensures w.if-is_class1.false)
+          (w.times-p.ensures.mark_value _ _ _ _ c.loop-x.invariant.product_is w.factor.ensures))
     ])

@@ -1,8 +1,9 @@
 use Rattle.std.proofs.Common.{take}
 use Rattle.tables.specs.Internal.Described.{net_of}
 use Rattle.path.specs.Internal.Paths.{path_of}
-use Rattle.path.proofs.PathSums.{Multiplied}
+use Rattle.path.proofs.PathSums.{ProductSoFar}
 use Rattle.path.proofs.lower.product.Given as goal
 
 abbrev pub invariant-loop-x : goal.invariant-loop-x
-invariant-loop-x l = Multiplied (net_of l.words) l.t (path_of (net_of l.words) (take l.x-index l.path)) l.k l.p
+invariant-loop-x g l =
+    ProductSoFar g.A.Arithmetic.Is (net_of l.prepared.words.now) l.fn.t (path_of (net_of l.prepared.words.now) (take l.x-index l.path)) l.k l.p

@@ -1,106 +1,40 @@
--- `lower_kept` meets its contract: every figure on the way is an operand, and the marks are those of the lower. Assumes nothing.
-use Prim.Native.Nat.{◌<◌}
-use mathlib.Core.Path.{◌≡◌}
+-- `lower_kept` meets its contract: N', A and k are those of the path, and the marks are those of the lower. Assumes nothing.
+use mathlib.Core.Path.{ap, ◌∙◌}
 use lib.Dec.{lit≤}
-use lib.IntN.{negsuc}
-use Rattle.figure.specs.Operands.{Sized}
-use Rattle.figure.specs.Operations.{times_up, times_ten}
-use Rattle.figure.proofs.Sized.{sized-≤, times_up_sized, times_down_sized}
-use Rattle.model.specs.Internal.Valid.{Valid}
-use Rattle.tables.specs.Internal.Described.{described, net_of}
-use Rattle.path.specs.Internal.Paths.{Known}
-use Rattle.path.proofs.PathMarks.{figure_told}
-use Rattle.path.proofs.LowerMarks.{lower_full, rates_sized, ones_few, time_sized, left_sized, down_sized, up_sized}
-use Rattle.path.proofs.LowerMarks.{product_sized, last_told_sized, lower_made}
+use Rattle.figure.specs.declared.Rounded.{Rounded}
+use Rattle.figure.proofs.Sized.{sized-≤}
+use Rattle.tree.proofs.Ranges.{last_sized}
+use Rattle.tables.specs.Internal.Described.{net_of}
+use Rattle.path.specs.Internal.Paths.{path_of}
+use Rattle.path.proofs.PathSums.{rates_fine, ones_few}
+use Rattle.path.proofs.LowerMarks.{lower_filled, lower_true, lower_false, product_part_fine, last_part_fine}
 use Rattle.path.proofs.marks.lower_kept.Goals as goal
 
-pub returns-then-spent-ge1000000 : goal.returns-then-spent-ge1000000
-returns-then-spent-ge1000000 c = lower_full _ _ c.spent_telling-spent.ensures c.if-spent-ge1000000.true
+pub stem_of-requires : goal.stem_of-requires
+stem_of-requires c = (
+  c.requires,
+  rw c.spent_on-spent.ensures.rates_value (sized-≤ (lit≤ tt) (rates_fine c.args.prepared.now.filled.indexes.valid c.requires)),
+  ones_few c.requires c.spent_on-spent.ensures.ones_value,
+)
 
-pub times_down_telling-below-requires : goal.times_down_telling-below-requires
-times_down_telling-below-requires c =
-    let valid : Valid (described c.args.words.now) = c.requires.filled.0.indexes.valid in
-    let known : Known (net_of c.args.words.now) c.args.path.now = c.requires.filled.1 in
-    let inside : c.spent_telling-spent.result.grains < 1000000 = c.if-spent-ge1000000.false in
-    let time_fine : Sized 9 40 c.args.time = time_sized valid known c.spent_telling-spent.ensures inside c.requires.time_value c.of_whole-rest.ensures in
-    let left_fine : Sized 9 20 c.of_whole-rest.result = left_sized valid known c.spent_telling-spent.ensures inside c.requires.time_value
-    c.of_whole-rest.ensures in
-    (sized-≤ (lit≤ tt) time_fine, sized-≤ (lit≤ tt) left_fine)
-
-pub times_up-requires : goal.times_up-requires
-times_up-requires c =
-    let valid : Valid (described c.args.words.now) = c.requires.filled.0.indexes.valid in
-    let known : Known (net_of c.args.words.now) c.args.path.now = c.requires.filled.1 in
-    let inside : c.spent_telling-spent.result.grains < 1000000 = c.if-spent-ge1000000.false in
-    let time_fine : Sized 9 40 c.args.time = time_sized valid known c.spent_telling-spent.ensures inside c.requires.time_value c.of_whole-rest.ensures in
-    let left_fine : Sized 9 20 c.of_whole-rest.result = left_sized valid known c.spent_telling-spent.ensures inside c.requires.time_value
-    c.of_whole-rest.ensures in
-    (sized-≤ (lit≤ tt) time_fine, sized-≤ (lit≤ tt) left_fine)
-
-pub times_ten-above-requires : goal.times_ten-above-requires
-times_ten-above-requires c =
-    let valid : Valid (described c.args.words.now) = c.requires.filled.0.indexes.valid in
-    let known : Known (net_of c.args.words.now) c.args.path.now = c.requires.filled.1 in
-    let inside : c.spent_telling-spent.result.grains < 1000000 = c.if-spent-ge1000000.false in
-    let time_fine : Sized 9 40 c.args.time = time_sized valid known c.spent_telling-spent.ensures inside c.requires.time_value c.of_whole-rest.ensures in
-    let left_fine : Sized 9 20 c.of_whole-rest.result = left_sized valid known c.spent_telling-spent.ensures inside c.requires.time_value
-    c.of_whole-rest.ensures in
-    (rw c.times_up.ensures (sized-≤ (lit≤ tt) (times_up_sized time_fine left_fine)), lit≤ tt)
-
-pub times_ten-requires : goal.times_ten-requires
-times_ten-requires c =
-    let valid : Valid (described c.args.words.now) = c.requires.filled.0.indexes.valid in
-    let known : Known (net_of c.args.words.now) c.args.path.now = c.requires.filled.1 in
-    let inside : c.spent_telling-spent.result.grains < 1000000 = c.if-spent-ge1000000.false in
-    let time_fine : Sized 9 40 c.args.time = time_sized valid known c.spent_telling-spent.ensures inside c.requires.time_value c.of_whole-rest.ensures in
-    let left_fine : Sized 9 20 c.of_whole-rest.result = left_sized valid known c.spent_telling-spent.ensures inside c.requires.time_value
-    c.of_whole-rest.ensures in
-    (rw (figure_told c.times_down_telling-below.ensures) (sized-≤ (lit≤ tt) (times_down_sized time_fine left_fine)), lit≤ tt)
-
-pub product_telling-p-requires : goal.product_telling-p-requires
-product_telling-p-requires c =
-    let above_is : c.times_ten-above.result ≡ times_ten (times_up c.args.time c.of_whole-rest.result) (negsuc 5) =
-    rw c.times_up.ensures at c.times_ten-above.ensures in
-    let valid : Valid (described c.args.words.now) = c.requires.filled.0.indexes.valid in
-    let known : Known (net_of c.args.words.now) c.args.path.now = c.requires.filled.1 in
-    let inside : c.spent_telling-spent.result.grains < 1000000 = c.if-spent-ge1000000.false in
-    let below_fine : Sized 9 100 c.times_ten.result = down_sized valid known c.spent_telling-spent.ensures inside c.requires.time_value
-    c.of_whole-rest.ensures c.times_down_telling-below.ensures c.times_ten.ensures above_is in
-    (c.requires.filled.0, c.requires.filled.1, below_fine)
-
-pub last_telling-last-requires : goal.last_telling-last-requires
-last_telling-last-requires c =
-    let above_is : c.times_ten-above.result ≡ times_ten (times_up c.args.time c.of_whole-rest.result) (negsuc 5) =
-    rw c.times_up.ensures at c.times_ten-above.ensures in
-    let valid : Valid (described c.args.words.now) = c.requires.filled.0.indexes.valid in
-    let known : Known (net_of c.args.words.now) c.args.path.now = c.requires.filled.1 in
-    let inside : c.spent_telling-spent.result.grains < 1000000 = c.if-spent-ge1000000.false in
-    let above_fine : Sized 9 100 c.times_ten-above.result = up_sized valid known c.spent_telling-spent.ensures inside c.requires.time_value
-    c.of_whole-rest.ensures c.times_down_telling-below.ensures c.times_ten.ensures above_is in
-    (above_fine, sized-≤ (lit≤ tt) (rates_sized valid known c.spent_telling-spent.ensures), ones_few valid known c.spent_telling-spent.ensures)
-
-pub times_down_telling-lower-requires : goal.times_down_telling-lower-requires
-times_down_telling-lower-requires c =
-    let above_is : c.times_ten-above.result ≡ times_ten (times_up c.args.time c.of_whole-rest.result) (negsuc 5) =
-    rw c.times_up.ensures at c.times_ten-above.ensures in
-    let valid : Valid (described c.args.words.now) = c.requires.filled.0.indexes.valid in
-    let known : Known (net_of c.args.words.now) c.args.path.now = c.requires.filled.1 in
-    let inside : c.spent_telling-spent.result.grains < 1000000 = c.if-spent-ge1000000.false in (
-      sized-≤ (lit≤ tt) (product_sized valid known c.spent_telling-spent.ensures inside c.requires.time_value c.of_whole-rest.ensures
-          c.times_down_telling-below.ensures c.times_ten.ensures above_is c.product_telling-p.ensures.figure_value c.product_telling-p.ensures.kept_value
-          c.last_telling-last.ensures),
-      sized-≤ (lit≤ tt) (last_told_sized valid known c.spent_telling-spent.ensures inside c.requires.time_value
-          c.of_whole-rest.ensures c.times_down_telling-below.ensures c.times_ten.ensures above_is c.product_telling-p.ensures.figure_value
-          c.product_telling-p.ensures.kept_value c.last_telling-last.ensures),
+pub times-lower-requires : goal.times-lower-requires
+times-lower-requires c =
+    let parts = rw c.in-Some.is at (c.stem_of.ensures _ _ c.spent_on-spent.ensures.rates_value) in let valid = c.args.prepared.now.filled.indexes.valid in (
+      product_part_fine valid c.requires parts,
+      last_part_fine valid c.requires (ones_few c.requires c.spent_on-spent.ensures.ones_value) parts,
     )
 
-pub returns : goal.returns
-returns c =
-    let above_is : c.times_ten-above.result ≡ times_ten (times_up c.args.time c.of_whole-rest.result) (negsuc 5) =
-    rw c.times_up.ensures at c.times_ten-above.ensures in
-    let valid : Valid (described c.args.words.now) = c.requires.filled.0.indexes.valid in
-    let known : Known (net_of c.args.words.now) c.args.path.now = c.requires.filled.1 in
-    let inside : c.spent_telling-spent.result.grains < 1000000 = c.if-spent-ge1000000.false in
-    lower_made valid known c.spent_telling-spent.ensures inside c.requires.time_value c.of_whole-rest.ensures c.times_down_telling-below.ensures
-    c.times_ten.ensures above_is c.product_telling-p.ensures.figure_value c.product_telling-p.ensures.kept_value c.last_telling-last.ensures
-    c.times_down_telling-lower.ensures c.both.ensures c.both-2.ensures c.both-after.ensures c.both-3.ensures c.both-4.ensures
+pub returns-in-None : goal.returns-in-None
+returns-in-None c =
+    let spent = c.spent_on-spent.ensures in let filled = rw c.in-None.is at (c.stem_of.ensures _ _ spent.rates_value) in
+    lower_filled _ _ spent.grains_value spent.ones_value c.grains_kept-kept.ensures filled
+
+pub returns-then-kept : goal.returns-then-kept
+returns-then-kept c =
+    let spent = c.spent_on-spent.ensures in let parts = rw c.in-Some.is at (c.stem_of.ensures _ _ spent.rates_value) in
+    lower_true _ _ spent.grains_value spent.ones_value c.grains_kept-kept.ensures parts c.times-lower.ensures c.if-kept.true
+
+pub returns-else-kept : goal.returns-else-kept
+returns-else-kept c =
+    let spent = c.spent_on-spent.ensures in let parts = rw c.in-Some.is at (c.stem_of.ensures _ _ spent.rates_value) in
+    c.if-kept.false ∙ lower_false _ _ spent.grains_value spent.ones_value c.grains_kept-kept.ensures parts c.times-lower.ensures c.if-kept.false
