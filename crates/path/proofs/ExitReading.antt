@@ -1,4 +1,4 @@
--- An exit of the tip's state as the code reads it: by its slot, its word and the table. Assumes nothing.
+-- An exit of the tip's state as the code reads it: by its word and the table. Assumes nothing.
 use Prim.Native.Nat.{ℕ, ◌≤◌, ◌<◌}
 use mathlib.Core.Path.{◌≡◌, refl, sym, ap, ◌∙◌}
 use mathlib.Core.Bool.{Bool}
@@ -10,7 +10,7 @@ use Rattle.figure.specs.Operands.{Sized}
 use Rattle.figure.proofs.Sized.{sized-≤}
 use Rattle.word.specs.Model.{Transition}
 use Rattle.word.specs.Words.{kind, to_field}
-use Rattle.model.specs.Index.{transition, slot, place_of}
+use Rattle.model.specs.Index.{transition, place_of}
 use Rattle.model.specs.Internal.Valid.{Valid}
 use Rattle.model.proofs.Slots.{word, stands_to}
 use Rattle.tree.specs.Paths.{Class, class}
@@ -26,13 +26,9 @@ use Rattle.path.specs.Internal.Lent.{Lent, Filled, model_in, net_in}
 use Rattle.path.specs.Internal.Exits.{tip_by, ExitReady, ExitOf}
 use Rattle.path.proofs.ExitTips.{tip_by_transition}
 
-module _ {l : Lent} {time : Figure} (filled : Filled l) (time_is : time ≡ mission_time (net_in l)) {tip : Tip} {i : ℕ} (h : ExitReady l tip i) where
-  -- the index of the exit's transition
-  abbrev at : ℕ
-  at = slot l.index tip.state i
-
+module _ {l : Lent} {time : Figure} (filled : Filled l) (time_is : time ≡ mission_time (net_in l)) {tip : Tip} {x : ℕ} (h : ExitReady l tip x) where
   abbrev exit : Transition
-  exit = transition (net_in l) at
+  exit = transition (net_in l) x
 
   valid : Valid (model_in l)
   valid = filled.indexes.valid
@@ -54,7 +50,7 @@ module _ {l : Lent} {time : Figure} (filled : Filled l) (time_is : time ≡ miss
     mean_sized = rw mean_is (sized-≤ (lit≤ tt) (mean_up_sized valid exit.from))
 
   -- j is the exit's index
-  module _ {j : ℕ} (j-is : j ≡ at) where
+  module _ {j : ℕ} (j-is : j ≡ x) where
     pub exit_small : j < 4000
     exit_small = rw j-is (index_small valid h.index)
 
@@ -63,37 +59,37 @@ module _ {l : Lent} {time : Figure} (filled : Filled l) (time_is : time ≡ miss
 
     module _ {s : Figure} (s-is : s ≡ share_in l.table j) where
       share_is : s ≡ share exit.manner
-      share_is = s-is ∙ ap (share_in l.table) j-is ∙ filled.tabled.steps.shares at h.index
+      share_is = s-is ∙ ap (share_in l.table) j-is ∙ filled.tabled.steps.shares x h.index
 
       pub exit_share_sized : Sized 9 1000 s
       exit_share_sized = rw share_is (sized-≤ (lit≤ tt) (share_sized exit.manner (step_valid valid h.index).manner))
 
     -- w is its word
     module _ {w : ℕ} (w-is : w ≡ word l.words l.index j) where
-      word_there : w ≡ word l.words l.index at
+      word_there : w ≡ word l.words l.index x
       word_there = w-is ∙ ap (word l.words l.index) j-is
 
       -- what is read of the exit, and the tip beyond it
-      pub exit_of : {k : ℕ} {b : Bool} {x : Coded} {to : ℕ} {s m : Figure} {next : Tip}
-          → k ≡ at
+      pub exit_of : {k : ℕ} {b : Bool} {a : Coded} {to : ℕ} {s m : Figure} {next : Tip}
+          → k ≡ x
           → b ≡ eqb (kind w) 7
-          → class_for x ≡ class_by b m.digits
+          → class_for a ≡ class_by b m.digits
           → to ≡ to_field w
           → s ≡ share_in l.table j
           → m ≡ mean_up_in l.table tip.state
-          → next ≡ tip_by tip (class_for x) to s m time
-          → ExitOf l tip i (record { index = k; class = x; tip = next })
-      exit_of {k} {b} {x} {to} {s} {m} {next} k-is b-is x-is to_is s-is m-is next_is = rw k-is (record {
+          → next ≡ tip_by tip (class_for a) to s m time
+          → ExitOf l tip x (record { index = k; class = a; tip = next })
+      exit_of {k} {b} {a} {to} {s} {m} {next} k-is b-is a-is to_is s-is m-is next_is = rw k-is (record {
         index_is = refl;
         class_is = class_there;
         tip_is =
             next_is
-            ∙ same_tip class_there (to_is ∙ ap to_field word_there ∙ stands_to (filled.indexes.indexed.places_are at h.index)) (share_is s-is) (mean_is m-is)
+            ∙ same_tip class_there (to_is ∙ ap to_field word_there ∙ stands_to (filled.indexes.indexed.places_are x h.index)) (share_is s-is) (mean_is m-is)
             ∙ tip_by_transition (net_in l) exit tip;
       })
         where
-          class_there : class_for x ≡ class (net_in l) exit
-          class_there = class_read filled.indexes h.index word_there b-is (mean_is m-is) x-is
+          class_there : class_for a ≡ class (net_in l) exit
+          class_there = class_read filled.indexes h.index word_there b-is (mean_is m-is) a-is
 
           same_tip : {c : Class} → c ≡ class (net_in l) exit → to ≡ exit.to → s ≡ share exit.manner → m ≡ mean_up (net_in l) exit.from
               → tip_by tip c to s m time ≡ tip_by tip (class (net_in l) exit) exit.to (share exit.manner) (mean_up (net_in l) exit.from) (mission_time (net_in l))

@@ -1,5 +1,4 @@
 pub mod Lent
-pub mod OneProof
 pub mod Held
 pub mod Paths
 pub mod Counts

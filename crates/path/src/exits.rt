@@ -10,7 +10,6 @@ ghost use Rattle.path.specs.Internal.Marks.{upper_by_kept};
 
 use crate::prepared::Prepared;
 use figure::{Arithmetic, Direction, Figure};
-use model::index::{slot, wide, word_of};
 use tables::class::Class;
 use word::fields::{is_fast, to};
 
@@ -77,14 +76,13 @@ fn next_tip(
     }
 }
 
-// The exit i of the tip's state: its index stands in its slot, its kind and its target in its word; nth is the number of the next class 1 step.
-pub fn exit_at(prepared: &Prepared, tip: Tip, nth: Figure, i: usize) -> Exit
-    requires { ExitReady (lent_by prepared.now) tip i × (nth ≡ ops.of_whole (tip.ones + 1)) }
-    ensures { ExitOf (lent_by prepared.now) tip i result }
+// The exit of the tip's state that is transition x: its kind and its target stand in its word; nth is the number of the next class 1 step.
+pub fn exit_at(prepared: &Prepared, tip: Tip, nth: Figure, x: u16) -> Exit
+    requires { ExitReady (lent_by prepared.now) tip x × (nth ≡ ops.of_whole (tip.ones + 1)) }
+    ensures { ExitOf (lent_by prepared.now) tip x result }
 {
-    let x = slot(prepared.index, tip.state, i);
-    let j = wide(x);
-    let w = word_of(prepared.words, prepared.index, j);
+    let j = usize::from(x);
+    let w = prepared.index.word_of(prepared.words, j);
     let mean = prepared.table.states[tip.state].mean_up.figure();
     let class = Class::of(is_fast(w), mean);
     let share = prepared.table.steps[j].share.figure();

@@ -5,7 +5,7 @@ ghost use Rattle.tree.specs.Tree as tree;
 ghost use Rattle.path.specs.Internal.Outcomes.{named_end, judged, outcome_of};
 
 use figure::Figure;
-use model::index::{Index, is_named};
+use model::index::Index;
 
 // What becomes of a path, with its reason.
 #[derive(Clone, Copy, PartialEq, Eq)]
@@ -23,7 +23,7 @@ pub fn is_named_end(index: &Index, s: usize, exits: usize) -> bool
     requires { s ≤ 1000 }
     ensures { result ≡ named_end index.now s exits }
 {
-    exits == 0 && is_named(index, s)
+    exits == 0 && index.is_named(s)
 }
 
 // What becomes of a path: by whether its last state is one of the generator's, the number of exits of that state, how often it was entered before, the

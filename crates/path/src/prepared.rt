@@ -1,14 +1,13 @@
 // What a walk reads: a model's words, and what was worked out of them before.
-ghost use mathlib.Core.Sum.{⊎_set};
 ghost use Rattle.std.specs.Prelude.{◌≡◌};
 ghost use Rattle.std.proofs.Props.{props};
 ghost use Rattle.tree.specs.States.{mission_time};
 ghost use Rattle.tables.specs.Internal.Described.{net_of};
 ghost use Rattle.path.specs.Internal.Lent.{Filled, lent};
-ghost use Rattle.path.specs.Internal.OneProof.{table_prop, distinct_prop};
+ghost use Rattle.tables.specs.Internal.Facts.{indexes_prop};
 
 use figure::{Arithmetic, Figure};
-use model::index::{Index, word_of};
+use model::index::Index;
 use tables::class::Class;
 use tables::table::Table;
 use word::fields::{from, is_fast};
@@ -20,7 +19,7 @@ pub struct Prepared<'a> {
     pub index: &'a Index,
     pub table: &'a Table,
     pub time: Figure,
-    pub ghost filled: { Filled (lent words.now index.now table.now) } by { Prim.hlevel (table_prop, distinct_prop, ⊎_set, props) },
+    pub ghost filled: { Filled (lent words.now index.now table.now) } by { Prim.hlevel (props, indexes_prop) },
     pub ghost time_is: { time ≡ mission_time (net_of words.now) },
 }
 
@@ -48,7 +47,7 @@ impl Prepared<'_> {
         ensures class_value { class_for result.class ≡ step_class (net_of self.now.words.now) j }
         ensures state_value { result.state ≡ (transition (net_of self.now.words.now) j).from }
     {
-        let w = word_of(self.words, self.index, j);
+        let w = self.index.word_of(self.words, j);
         let state = from(w);
         let class = Class::of(is_fast(w), self.table.states[state].mean_up.figure());
         Leaving { class, state }

@@ -4,7 +4,7 @@ use Rattle.figure.specs.declared.Figure.{Figure}
 use Rattle.figure.specs.Operands.{Sized}
 use Rattle.figure.specs.Operations.{times_up, divided_up, of_whole}
 use Rattle.word.specs.Model.{Transition, Net}
-use Rattle.model.specs.Index.{transition, slot}
+use Rattle.model.specs.Index.{transition}
 use Rattle.tree.specs.Paths.{Class, class1, class2, class3, class, counts_1}
 use Rattle.tree.specs.Upper.{upper_step}
 use Rattle.tables.specs.Internal.Classes.{class_for}
@@ -35,17 +35,16 @@ tip_after net t tip =
     let k = counts_1 (class net t) + tip.ones in
     record { state = t.to; upper = upper_step net (class net t) k t tip.upper; ones = k; len = tip.len + 1 }
 
--- What exit i of the tip's state is read from: it is there, and U may be taken one step further.
-pub record ExitReady (l : Lent) (tip : Tip) (i : ℕ) : Type 0 where
-  pub few : i < 16
-  pub index : slot l.index tip.state i < length (net_in l).table
-  pub leaves : (transition (net_in l) (slot l.index tip.state i)).from ≡ tip.state
+-- What an exit of the tip's state is read from, the transition of the index x: it leaves that state, and U may be taken one step further.
+pub record ExitReady (l : Lent) (tip : Tip) (x : ℕ) : Type 0 where
+  pub index : x < length (net_in l).table
+  pub leaves : (transition (net_in l) x).from ≡ tip.state
   pub upper : Sized 9 20000 tip.upper
   pub ones : tip.ones < 24
   pub room : tip.len < 24
 
--- an exit as it was read: its index stands in the slot, and its class and the tip beyond it are those of its transition
-pub record ExitOf (l : Lent) (tip : Tip) (i : ℕ) (r : Exit) : Type 0 where
-  pub index_is : r.index ≡ slot l.index tip.state i
+-- an exit as it was read: its class and the tip beyond it are those of its transition
+pub record ExitOf (l : Lent) (tip : Tip) (x : ℕ) (r : Exit) : Type 0 where
+  pub index_is : r.index ≡ x
   pub class_is : class_for r.class ≡ step_class (net_in l) r.index
   pub tip_is : r.tip ≡ tip_after (net_in l) (transition (net_in l) r.index) tip
