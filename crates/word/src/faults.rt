@@ -67,6 +67,7 @@ pub fn caps(part: &[u32], at: usize) -> Result<(), Refusal>
 
 // The tests of a word w that names a generator's state, whose kind is known and which stands at `place`: `last` is the state named before, 0 if there is
 // none, and `count` says how many were named.
+// kept: (d) no state is 0, so `last < s` is the test for the first word too; an Option would need a case more
 pub fn named(w: u32, place: usize, states: usize, last: usize, count: usize) -> Result<(), Refusal>
     ensures { answer result ≡ first_fault (faults.named_faults states last count w) place }
 {
