@@ -9,15 +9,10 @@ pub(crate) fn ceiling(g: Figure) -> u64
     requires { IsFigure 9 g }
     ensures { Ceiling g result }
 {
-    let power = g.power;
-    if 9 < power {
-        return 1_000_000_000_000_000_000;
+    match g.power {
+        10.. => 1_000_000_000_000_000_000,
+        0..=9 => g.digits * powers::ten_to(g.power as usize),
+        -9..=-1 => g.digits.div_ceil(powers::ten_to(-g.power as usize)),
+        _ => 1,
     }
-    if 0 <= power {
-        return g.digits * powers::ten_to(power as usize);
-    }
-    if power < -9 {
-        return 1;
-    }
-    g.digits.div_ceil(powers::ten_to(-power as usize))
 }
