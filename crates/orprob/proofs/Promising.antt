@@ -2,7 +2,8 @@
 use Rattle.std.proofs.lemmas.List.Quantifiers.{position-Some}
 use Rattle.std.proofs.lemmas.List.Sums.{fails_before_first}
 use Rattle.std.specs.List.{position_or_len}
-use Rattle.std.proofs.Common.{cond, ℕ, ◌<◌, ◌≡◌, refl, sym, ap₂, ◌∙◌, Bool, true, false, not, List, length, arith, Some, None, Result, Ok, Err, position, nat_lt}
+use Rattle.std.proofs.Common.{cond, ℕ, ◌<◌, ◌≡◌, refl, sym, ap₂, ◌∙◌, Bool, true, false}
+use Rattle.std.proofs.Common.{not, List, length, arith, Some, None, Result, Ok, Err, position, nat_lt}
 use borrow.Author.Tests.{ltb-false}
 use native.Mathlib.Nat.{zero-add}
 use Rattle.figure.proofs.Faithful.{faithful_figures}
@@ -56,7 +57,9 @@ module _ (pairs : List Pair) where
 
 -- no pair is none
 pub none_wrong : (pairs : List Pair) → position (λ x. not (is_pair x)) pairs ≡ None → Right pairs (length pairs)
-none_wrong pairs h = record { right = λ j l. not_false _ (fails_before_first (λ x. not (is_pair x)) pairs j no_pair (go (nat_lt first (length pairs)) refl h l)) }
+none_wrong pairs h = record {
+  right = λ j l. not_false _ (fails_before_first (λ x. not (is_pair x)) pairs j no_pair (go (nat_lt first (length pairs)) refl h l));
+}
   where
     first : ℕ
     first = position_or_len (λ x. not (is_pair x)) pairs

@@ -86,7 +86,8 @@ module _ (ts : List Transition) where
       go s low (yes a) (yes b) =
           let same : d ≡ s = omega arith in
           marked_so s true
-          (ap (λ x. get_or (set targets d true) x false) (sym same) ∙ get_or-set_same targets d true false (omega (arith, h.size)) ∙ sym (or_true (target_among ts j s)))
+          (ap (λ x. get_or (set targets d true) x false) (sym same) ∙ get_or-set_same targets d true false (omega (arith, h.size))
+          ∙ sym (or_true (target_among ts j s)))
           (eq-eqb d s same)
       go s low (yes a) (no b) = apart s low (λ e. b (omega (arith, e)))
       go s low (no a) b = apart s low (λ e. a (omega (arith, e)))
@@ -112,7 +113,12 @@ pub record Naming (index : Index) (targets : List Bool) (n : ℕ) (table : RowTa
 pub naming_none : {index : Index} {targets : List Bool} {table : RowTable} → Empty table → Naming index targets 0 table
 unfolding listed
 naming_none {table = table} h =
-    record { few = omega (arith, h.no_rows); count_is = h.no_rows ∙ sym (ap (λ (k : ℕ). length (take k table.states)) h.no_rows); states_are = ap (λ (k : ℕ). take k table.states) h.no_rows; no_totals = h.no_totals }
+    record {
+      few = omega (arith, h.no_rows);
+      count_is = h.no_rows ∙ sym (ap (λ (k : ℕ). length (take k table.states)) h.no_rows);
+      states_are = ap (λ (k : ℕ). take k table.states) h.no_rows;
+      no_totals = h.no_totals;
+    }
 
 module _ {index : Index} {targets : List Bool} {n : ℕ} {before : RowTable} (h : Naming index targets n before) where
   -- state n + 1 is written
@@ -143,7 +149,8 @@ module _ {index : Index} {targets : List Bool} {n : ℕ} {before : RowTable} (h 
 
 -- ---- they are the definition's
 
-module _ {ws : List ℕ} {index : Index} (indexes : Indexes ws index) {targets : List Bool} (all : Targets (net_of ws).table (length (net_of ws).table) targets) where
+module _ {ws : List ℕ} {index : Index} (indexes : Indexes ws index) {targets : List Bool}
+    (all : Targets (net_of ws).table (length (net_of ws).table) targets) where
   abbrev net : Net
   net = net_of ws
 

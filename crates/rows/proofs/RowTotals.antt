@@ -19,7 +19,8 @@ use Rattle.tree.proofs.Ranges.{total_up_more, total_down_more, total_same, total
 use Rattle.tree.proofs.Ranges.{total_none as no-total}
 use Rattle.rows.specs.declared.table.Sums.{Sums}
 use Rattle.rows.specs.declared.table.RowTable.{RowTable}
-use Rattle.rows.specs.Internal.Table.{no_sums, sums_of, totals_in, TotalsWith, NamesKept, DeathNoted, CutNoted, MarksNoted, NoTotals, TotalOf, RowGathered, TableGathered}
+use Rattle.rows.specs.Internal.Table.{no_sums, sums_of, totals_in, TotalsWith, NamesKept, DeathNoted, CutNoted, MarksNoted, NoTotals}
+use Rattle.rows.specs.Internal.Table.{TotalOf, RowGathered, TableGathered}
 
 pub names_then : {a b c : RowTable} → NamesKept a b → NamesKept b c → NamesKept a c
 names_then h k = record { count_same = k.count_same ∙ h.count_same; states_same = k.states_same ∙ h.states_same }

@@ -30,10 +30,11 @@ cut_total table = table.cuts
 abbrev pub marks_in : RowTable → Marks
 marks_in table = record { lower = table.lower_kept; upper = table.upper_kept }
 
--- the totals of the state s
+-- of no path
 abbrev pub no_sums : Sums
 no_sums = record { lower = none; upper = none }
 
+-- the totals of the state s
 abbrev pub sums_of : RowTable → ℕ → Sums
 sums_of table s = get_or table.by_state s no_sums
 
