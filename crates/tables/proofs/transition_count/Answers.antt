@@ -27,11 +27,6 @@ loop-s-preserved c =
       omega (arith, c.exit_count-total.ensures),
     )
 
-pub returns : goal.returns
-returns c =
-    let none : c.loop-s.s - 1 ≡ c.args.states = omega arith in
-    c.loop-s.invariant.0 ∙ ap (exit_total c.args.index.now) none
-
 pub returns-2 : goal.returns-2
 returns-2 c =
     let all : c.loop-s.s ≡ c.args.states = omega arith in

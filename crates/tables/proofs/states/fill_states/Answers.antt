@@ -3,11 +3,8 @@ use borrow.Author.Rules.{rules}
 use native.Mathlib.Omega.{arith}
 use Prim.Native.Nat.{◌+◌}
 use Rattle.tables.specs.Internal.Described.{net_of}
-use Rattle.tables.proofs.StatesFilled.{states_none, states_more, states_all, sums_sized}
+use Rattle.tables.proofs.StatesFilled.{states_more, states_all, sums_sized}
 use Rattle.tables.proofs.states.fill_states.Goals as goal
-
-pub loop-s-init : goal.loop-s-init
-loop-s-init c = states_none (net_of c.args.model.words.now) c.args.table.now
 
 pub packed-requires : goal.packed-requires
 packed-requires c = sums_sized c.args.model.indexes.valid c.loop-s.s c.sums_of-x.ensures
@@ -15,9 +12,6 @@ packed-requires c = sums_sized c.args.model.indexes.valid c.loop-s.s c.sums_of-x
 pub loop-s-preserved : goal.loop-s-preserved
 loop-s-preserved c =
     states_more (net_of c.args.model.words.now) c.loop-s.table c.packed.result (search rules) c.sums_of-x.ensures c.packed.ensures c.loop-s.invariant
-
-pub returns : goal.returns
-returns c = states_all (net_of c.args.model.words.now) (omega arith) c.loop-s.invariant
 
 pub returns-2 : goal.returns-2
 returns-2 c =

@@ -5,8 +5,8 @@ use native.Mathlib.Omega.{arith}
 use Rattle.model.specs.Index.{transition}
 use Rattle.tables.specs.Internal.Described.{net_of}
 use Rattle.tables.proofs.Classes.{step_valid}
-use Rattle.tables.proofs.Reached.{count_is, count_few, exit_more, number_below, number_exit}
-use Rattle.tables.proofs.StateSums.{summed_none, summed_more, summed_all, summed_sized}
+use Rattle.tables.proofs.Reached.{count_is, exit_more, number_below, number_exit}
+use Rattle.tables.proofs.StateSums.{summed_none, summed_more, summed_all}
 use Rattle.tables.proofs.states.sums_of.Goals as goal
 
 pub loop-j-init : goal.loop-j-init
@@ -18,12 +18,6 @@ pub part-requires : goal.part-requires
 part-requires c =
     let e = c.exits-j-items.ensures in
     rw c.from.ensures (number_below c.args.model.indexes c.requires e.value e.len c.loop-j-test.true)
-
-pub with_exit-so_far-requires : goal.with_exit-so_far-requires
-with_exit-so_far-requires c =
-    let e = c.exits-j-items.ensures in
-    let few = count_few c.args.model.indexes c.requires e.value e.len in
-    (c.part.ensures.stands_first, summed_sized (net_of c.args.model.words.now) c.args.s c.loop-j.invariant (omega (arith, few)))
 
 pub loop-j-preserved : goal.loop-j-preserved
 loop-j-preserved c =

@@ -4,11 +4,8 @@ use Rattle.figure.proofs.Sized.{sized-≤, times_up_sized}
 use Rattle.tables.specs.Internal.Steps.{class2_loss_of}
 use Rattle.tables.proofs.Search.{square_is}
 use Rattle.tables.proofs.Sections.{same_figure}
-use Rattle.tables.proofs.Losses.{grains_square_fits, over_square, whole_sized, divisor_sized, divisor_above, quotient_sized, shifted_sized}
+use Rattle.tables.proofs.Losses.{over_square, whole_sized, divisor_sized, divisor_above, quotient_sized, shifted_sized}
 use Rattle.tables.proofs.steps.class2_loss.Goals as goal
-
-pub overflow_mul-n : goal.overflow_mul-n
-overflow_mul-n c = grains_square_fits c.requires.digits_nonzero.1 c.requires.digits_nonzero.2
 
 pub times-square-requires : goal.times-square-requires
 times-square-requires c =
