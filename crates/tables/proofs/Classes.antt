@@ -24,13 +24,6 @@ use Rattle.tables.specs.Internal.Classes.{class_by, is_class1}
 
 -- ---- the class by whether the transition is fast and by the digits of h
 
-pub by_three : {b : Bool} {d : ℕ} → b ≡ false → (d ≡ 0 → ⊥) → class3 ≡ class_by b d
-by_three {b} {d} e h = rw e (go d h)
-  where
-    go : (d : ℕ) → (d ≡ 0 → ⊥) → class3 ≡ class_by false d
-    go zero h = absurd (h refl)
-    go (suc d) h = refl
-
 -- h is 0 exactly if the state has no fast exits
 by_is : (b : Bool) (d : ℕ) (some : Bool) (x : Manner) → is_fast x ≡ b → ((d ≡ 0) ↔ (some ≡ false)) → class_by b d ≡ class_of some x
 by_is false zero true (slow r) e h = absurd (true≢false (h.0 refl))

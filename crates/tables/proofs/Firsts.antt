@@ -89,9 +89,6 @@ module _ {part : List ℕ} (first : StandsFirst part) where
   pub first_from : from_field (get_or part 0 0) ≡ (transition_at part).from
   first_from = stands_from first.stands ∙ ap (λ (u : Transition). u.from) (sym first.stands.reads)
 
-  pub first_long : 1 < length part
-  first_long = stands_inside first.stands
-
   module _ (test : eqb (kind (get_or part 0 0)) 7 ≡ true) where
     fast_valid : InRange 1 20 (quantity (get_or part 1 0)) × (InRange 0 20 (quantity (get_or part 2 0)) × InRange 1 12 (quantity (get_or part 3 0)))
     unfolding ValidManner

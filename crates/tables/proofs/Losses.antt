@@ -26,9 +26,6 @@ module _ {n : ℕ} (low : 1 ≤ n) (high : n ≤ 1000000) where
   square_high : n * n ≤ 1000000000000
   square_high = mul-le-mul high high
 
-  pub grains_square_fits : Fits w64 (n * n)
-  grains_square_fits = omega (arith, square_high)
-
 -- ---- M or H over a whole number k times T2 or T: w is k, b the divisor and q the quotient
 
 pub record Over (moment time : Figure) (k : ℕ) (w : Figure) : Type 0 where

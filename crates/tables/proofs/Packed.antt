@@ -27,39 +27,18 @@ module _ (p : ℤ) (h : mag p ≤ 100000) where
   in_reach : mag p ≤ 1000000000
   in_reach = le_trans h (lit≤ tt)
 
-  pub raised_fit : SFits w32 (stored p +ℤ pos 1048576)
-  raised_fit = both_fit ◌+ℤ◌ sum_near p (pos 1048576) in_reach (lit≤ tt)
-
   raised_kept : stored (stored p +ℤ pos 1048576) ≡ p +ℤ pos 1048576
   raised_kept = both_kept ◌+ℤ◌ sum_near p (pos 1048576) in_reach (lit≤ tt)
-
-  pub raised_cast : T (non_neg (stored (stored p +ℤ pos 1048576))) × Fits w64 (nat_abs (stored (stored p +ℤ pos 1048576)))
-  raised_cast = rw raised_kept (not_negative p h, Fits-nat_abs tt (small (p +ℤ pos 1048576) (both_small ◌+ℤ◌ sum_near p (pos 1048576) in_reach (lit≤ tt))))
-
-  pub raised_is : pos (nat_abs (stored (stored p +ℤ pos 1048576))) ≡ p +ℤ pos 1048576
-  raised_is = pos-nat_abs _ raised_cast.0 ∙ raised_kept
 
   -- it takes 21 bits
   raised_below : (r : ℕ) → pos r ≡ p +ℤ pos 1048576 → r < 2097152
   raised_below r e = le_trans {m = 1148579} (omega (arith, ap mag e, mag_sum p (pos 1048576))) (lit≤ tt)
-
-  -- and modulo 2^21 it is set back to what it was
-  pub raised_back : (r : ℕ) → pos r ≡ p +ℤ pos 1048576 → pos (r % 2097152) -ℤ pos 1048576 ≡ p
-  raised_back r e =
-      let same : r % 2097152 ≡ r = omega (arith, raised_below r e) in
-      ap (λ (k : ℕ). pos k -ℤ pos 1048576) same ∙ ap (λ (z : ℤ). z -ℤ pos 1048576) e ∙ +ℤ-neg_ℤ_cancel p (pos 1048576)
 
 -- ---- and set back
 
 module _ (k : ℕ) (h : k < 2097152) where
   low : mag (pos k) ≤ 1000000000
   low = le_trans {m = 2097152} (omega arith) (lit≤ tt)
-
-  pub lowered_fit : SFits w32 (stored (pos k) -ℤ pos 1048576)
-  lowered_fit = both_fit ◌-ℤ◌ mag_difference (pos k) (pos 1048576) low (lit≤ tt)
-
-  pub lowered_is : stored (stored (pos k) -ℤ pos 1048576) ≡ pos k -ℤ pos 1048576
-  lowered_is = both_kept ◌-ℤ◌ mag_difference (pos k) (pos 1048576) low (lit≤ tt)
 
 -- what is unpacked, its power stored once more
 pub unpacked_is : (x : Packed) (p : ℤ) → p ≡ pos (x.bits / 1073741824 % 2097152) -ℤ pos 1048576
@@ -107,9 +86,6 @@ module _ {n : ℕ} (few : n ≤ 1000000) where
   few_below = le_trans {m = 1000001} (omega arith) (lit≤ tt)
 
   module _ (k : Bool) {b : ℕ} (mark : b ≡ mark_of k) where
-    pub count_fits : Fits w64 (n + b)
-    count_fits = rw mark (marked_fits few_below k)
-
     pub count_is : ((n + b) % 1073741824 ≡ n) × (marked (of_bits (n + b)) ≡ k)
     count_is = rw mark (low_kept n k ∙ small_self, mark_read few_below k)
       where
@@ -129,12 +105,6 @@ module _ (f : Figure) (h : Operand 9 f) (r : ℕ) (raised : pos r ≡ stored f.p
       go (is_zero z p) = rw z (lit≤ tt)
       go (is_whole b t) = le_trans t (lit≤ tt)
 
-  pub above_fits : Fits w64 (r * 1073741824)
-  above_fits = omega (arith, raised_below f.power h.near r e)
-
-  pub packed_fits : Fits w64 (f.digits + r * 1073741824)
-  packed_fits = omega (arith, raised_below f.power h.near r e, digits_below)
-
   packed_below : f.digits + r * 1073741824 < 2251799813685248
   packed_below = omega (arith, raised_below f.power h.near r e, digits_below)
 
@@ -149,9 +119,6 @@ module _ (f : Figure) (h : Operand 9 f) (r : ℕ) (raised : pos r ≡ stored f.p
       back = omega (arith, raised_below f.power h.near r e, digits_below)
 
   module _ (k : Bool) {b : ℕ} (mark : b ≡ mark_of k) where
-    pub packed_marked_fits : Fits w64 (f.digits + r * 1073741824 + b)
-    packed_marked_fits = rw mark (marked_fits packed_below k)
-
     pub packed_is : (unpacked (of_bits (f.digits + r * 1073741824 + b)) ≡ f)
         × (marked (of_bits (f.digits + r * 1073741824 + b)) ≡ k)
     packed_is = rw mark (unpacked_kept (f.digits + r * 1073741824) k ∙ figure_is, mark_read packed_below k)

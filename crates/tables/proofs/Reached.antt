@@ -28,18 +28,12 @@ module _ {ws : List ℕ} {index : Index} (h : Indexes ws index) {j : ℕ} (insid
       valid = (step_valid h.valid inside).manner;
     })
 
-    pub part_reads : transition_at (part_at ws place) ≡ transition (net_of ws) j
-    part_reads = rw (part_from ws place) stands.reads
-
 -- ---- from a state
 
 module _ {ws : List ℕ} {index : Index} (h : Indexes ws index) {s : ℕ} (low : s ≤ 1000) {numbers : List ℕ} (are : numbers ≡ exits_of index s)
     (count : length numbers ≡ exit_count index s) where
   pub count_is : length numbers ≡ length (exits (net_of ws) s)
   count_is = count ∙ h.indexed.counts_are s low
-
-  pub count_few : length numbers ≤ 16
-  count_few = rw count (counts_few (described ws) ws index h.valid h.indexed s low)
 
   module _ {i : ℕ} (more : i < length numbers) where
     counted : i < exit_count index s

@@ -30,13 +30,6 @@ small_power : (power : Power) (n : ℕ) → n < 1000000 → n ^ exponent power <
 small_power Cube n h = le_trans {m = suc (999999 ^ 3)} (omega (arith, pow-le-pow_left {n = n} {m = 999999} (omega arith) 3)) (lit≤ tt)
 small_power Square n h = le_trans {m = suc (999999 ^ 2)} (omega (arith, pow-le-pow_left {n = n} {m = 999999} (omega arith) 2)) (lit≤ tt)
 
-module _ (n : ℕ) (h : n < 1000000) where
-  pub square_fits : Fits w64 (n * n)
-  square_fits = rw (square_is n) (omega (arith, small_power Square n h))
-
-  pub cube_fits : Fits w64 (n * n * n)
-  cube_fits = rw (cube_is n) (omega (arith, small_power Cube n h))
-
 -- ---- a search from a close number on
 
 -- no number from 1 on and below n will do
@@ -45,15 +38,6 @@ pub record Searched (e c n : ℕ) : Type 0 where
   pub high : n ≤ 1000000
   pub first : (i : ℕ) → 1 ≤ i → i < n → i ^ e < c
 
-pub below_none : (e c : ℕ) → Below e c 0
-below_none e c = record { bounded = lit≤ tt; below = λ h. absurd (lt_irrefl 0 h) }
-
-pub below_more : {e c n m r : ℕ} → n ≡ m → m < 1000000 → r ≡ m ^ e → r < c → Below e c n
-below_more e h p k = rw e (record { bounded = h; below = λ _. rw p at k })
-
-pub below_same : {e c n m : ℕ} → n ≡ m → Below e c m → Below e c n
-below_same e b = rw e b
-
 module _ {e c : ℕ} where
   pub searched_from : (r : ℕ) → Below e c r → Searched e c (r + 1)
   searched_from r b = record {
@@ -61,13 +45,6 @@ module _ {e c : ℕ} where
     high = omega (arith, b.bounded);
     first = λ i p q. le_trans (suc-le-suc (pow-le-pow_left {n = i} {m = r} (omega arith) e)) (b.below (omega arith));
   }
-
-  pub searched_next : {n : ℕ} → Searched e c n → n < 1000000 → n ^ e < c → Searched e c (n + 1)
-  searched_next {n} s h k = record { low = omega arith; high = omega arith; first = λ i p q. go i p (le_of_suc-le-suc (omega arith)) (dec_le n i) }
-    where
-      go : (i : ℕ) → 1 ≤ i → i ≤ n → Dec (n ≤ i) → i ^ e < c
-      go i p q (yes l) = rw (le_antisymm q l) k
-      go i p q (no l) = s.first i p (lt_of_not-le l)
 
 module _ (power : Power) (g : Figure) (c : ℕ) (ceil : Ceiling g c) (n : ℕ) (s : Searched (exponent power) c n) where
   unreached : (i : ℕ) → 1 ≤ i → i < n → T (reaches (exponent power) g i) → ⊥

@@ -128,6 +128,3 @@ module _ (net : Net) (s : ℕ) where
     pub summed_all : length (exits net s) ≤ i → r ≡ sums net s
     unfolding sum_over
     summed_all all = rw (drop_of_length-le (exits net s) all) at h.rest
-
-    pub summed_sized : i ≤ 16 → SumsSized 10000 r
-    summed_sized few = sums-≤ (omega arith) h.sized

@@ -18,19 +18,6 @@ use Rattle.tables.specs.Internal.Sums.{SumsPacked, SumsSized, sums}
 use Rattle.tables.proofs.Sections.{same_figure, same_mark, put_more}
 
 module _ (net : Net) where
-  -- no state is below 1
-  pub states_none : (table : Table) → StatesHold net 0 table
-  states_none table = record {
-    rate_sums = λ s low high. absurd (omega arith);
-    rate_sums_kept = λ s low high. absurd (omega arith);
-    means_up = λ s low high. absurd (omega arith);
-    means_up_kept = λ s low high. absurd (omega arith);
-    means_down = λ s low high. absurd (omega arith);
-    means_down_kept = λ s low high. absurd (omega arith);
-    moment_sums = λ s low high. absurd (omega arith);
-    moment_sums_kept = λ s low high. absurd (omega arith);
-  }
-
   module _ {s : ℕ} (table : Table) {x : Sums} (entry : StateEntry) (inside : s < length table.states) (is : x ≡ sums net s)
       (packed : SumsPacked x entry) where
     -- what is read of an entry, its figure or its mark, is that of its state

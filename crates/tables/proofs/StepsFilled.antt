@@ -51,15 +51,6 @@ module _ {m : Model} (valid : Valid m) {j : ℕ} (index : j < length m.net.table
 -- ---- the steps of the transitions below j
 
 module _ (net : Net) where
-  pub steps_none : (table : Table) → StepsHold net 0 table
-  steps_none table = record {
-    shares = λ k high. absurd (omega arith);
-    factors = λ k high. absurd (omega arith);
-    grain_counts = λ k high. absurd (omega arith);
-    factors_kept = λ k high. absurd (omega arith);
-    grains_kept = λ k high. absurd (omega arith);
-  }
-
   module _ {j : ℕ} (table : Table) {x : Step} (entry : StepEntry) (inside : j < length table.steps) (is : x ≡ step_of net (transition net j))
       (packed : StepPacked x entry) where
     -- what is read of an entry is that of its transition
@@ -97,13 +88,4 @@ module _ (net : Net) where
     means_down_kept = h.means_down_kept;
     moment_sums = h.moment_sums;
     moment_sums_kept = h.moment_sums_kept;
-  }
-
-  pub steps_all : {j count n : ℕ} {table : Table} → count ≤ j → count ≡ n → StepsHold net j table → StepsHold net n table
-  steps_all all e h = record {
-    shares = λ k high. h.shares k (omega arith);
-    factors = λ k high. h.factors k (omega arith);
-    grain_counts = λ k high. h.grain_counts k (omega arith);
-    factors_kept = λ k high. h.factors_kept k (omega arith);
-    grains_kept = λ k high. h.grains_kept k (omega arith);
   }

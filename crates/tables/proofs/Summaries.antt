@@ -18,9 +18,6 @@ use Rattle.tables.specs.Internal.Steps.{StepReady}
 use Rattle.tables.proofs.TransitionCount.{count_is}
 
 module _ {ws : List ℕ} {index : Index} (indexes : Indexes ws index) {a : Accepted} (is : a ≡ summary (described ws)) where
-  pub scale_small : a.time.scale ≤ 255
-  scale_small = rw is (le_trans indexes.valid.time.scale (lit≤ tt))
-
   pub states_are : a.states ≡ (described ws).states
   states_are = ap (λ (x : Accepted). x.states) is
 
