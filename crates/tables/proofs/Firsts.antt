@@ -11,12 +11,12 @@ use Rattle.figure.specs.declared.Rounded.{Rounded}
 use Rattle.figure.specs.Operands.{Sized}
 use Rattle.figure.proofs.Sized.{sized-≤}
 use Rattle.word.specs.declared.Quantity.{Quantity}
-use Rattle.word.specs.Model.{Manner, slow, fast, Transition, is_fast}
+use Rattle.word.specs.Model.{Manner, slow, fast, Transition}
 use Rattle.word.specs.Words.{kind, from_field, coefficient_field, quantity}
 use Rattle.model.specs.Index.{transition_at}
 use Rattle.model.specs.Internal.Valid.{InRange, ValidManner}
 use Rattle.word.proofs.Parts.{part_word}
-use Rattle.model.proofs.Slots.{fast_at, slow_at, stands_from, stands_inside, stands_inside_fast, stands_fast}
+use Rattle.model.proofs.Slots.{fast_at, slow_at, stands_from, stands_inside_fast}
 use Rattle.tree.specs.States.{figure_of}
 use Rattle.tree.proofs.Ranges.{quantity_sized}
 use Rattle.tables.specs.Internal.Described.{StandsFirst}
@@ -80,10 +80,6 @@ low_coefficient w h = omega (arith, h.high)
 module _ {part : List ℕ} (first : StandsFirst part) where
   pub first_valid : ValidManner (transition_at part).manner
   first_valid = rw first.stands.reads first.valid
-
-  -- whether it is fast, by its word
-  pub first_fast : is_fast (transition_at part).manner ≡ eqb (kind (get_or part 0 0)) 7
-  first_fast = ap (λ (u : Transition). is_fast u.manner) first.stands.reads ∙ stands_fast first.stands
 
   -- the state that it leaves, by its word
   pub first_from : from_field (get_or part 0 0) ≡ (transition_at part).from

@@ -5,8 +5,6 @@ use native.Mathlib.Nat.{le_trans, mul-le-mul, mul-pos}
 use lib.Dec.{lit≤}
 use native.Mathlib.Omega.{arith}
 use lib.IntN.{pos}
-use mir.Syntax.{w64}
-use mir.Val.{Fits}
 use Rattle.figure.specs.declared.Figure.{Figure}
 use Rattle.figure.specs.declared.Rounded.{Rounded}
 use Rattle.figure.specs.Operations.{times_down, divided_up, times_ten, of_whole}

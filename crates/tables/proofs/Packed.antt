@@ -1,44 +1,27 @@
 -- A figure in 64 bits: powers are raised above 0 and set back, and what was packed, with its mark above it, is unpacked again. Assumes nothing.
 use mathlib.Core.Path.{◌≡◌, refl, ◌∙◌, ap, ap₂}
 use mathlib.Core.Bool.{Bool, true, false}
-use Prim.Native.Nat.{ℕ, suc, ◌+◌, ◌*◌, ◌/◌, ◌%◌, ◌≤◌, ◌<◌}
+use Prim.Native.Nat.{ℕ, ◌+◌, ◌*◌, ◌/◌, ◌%◌, ◌≤◌, ◌<◌}
 use native.Mathlib.Nat.{le_trans}
 use native.Mathlib.Omega.{arith}
-use lib.Dec.{T, eqb, lit≤, le→leb}
-use lib.IntN.{ℤ, pos, negsuc, nat_abs, ◌+ℤ◌, ◌-ℤ◌, +ℤ-neg_ℤ_cancel}
-use lib.Signed.{mag, non_neg, pos-nat_abs}
-use mir.Syntax.{w32, w64}
-use mir.Val.{SFits, Fits}
-use mir.Facts.{Fits-nat_abs}
+use lib.Dec.{eqb, lit≤}
+use lib.IntN.{ℤ, pos, ◌+ℤ◌, ◌-ℤ◌, +ℤ-neg_ℤ_cancel}
+use lib.Signed.{mag}
 use Rattle.figure.specs.declared.Figure.{Figure}
 use Rattle.figure.specs.Rounding.{figure, IsFigure, is_zero, is_whole}
 use Rattle.figure.specs.Operands.{Operand}
-use Rattle.figure.proofs.Stored.{stored, small, kept, mag_sum, mag_difference, sum_near, difference_nonneg, both_small, both_fit, both_kept}
+use Rattle.figure.proofs.Stored.{stored, kept, mag_sum, mag_difference}
 use Rattle.tables.specs.declared.pack.Packed.{Packed}
 use Rattle.tables.specs.Internal.Tables.{unpacked, marked, mark_of}
 
 -- ---- a power raised above 0
 
-not_negative : (p : ℤ) → mag p ≤ 100000 → T (non_neg (p +ℤ pos 1048576))
-not_negative (pos a) h = tt
-not_negative (negsuc a) h = difference_nonneg (pos 1048576) (pos (suc a)) (le→leb (suc a) 1048576 (le_trans {m = 100001} (omega arith) (lit≤ tt)))
-
 module _ (p : ℤ) (h : mag p ≤ 100000) where
-  in_reach : mag p ≤ 1000000000
-  in_reach = le_trans h (lit≤ tt)
-
-  raised_kept : stored (stored p +ℤ pos 1048576) ≡ p +ℤ pos 1048576
-  raised_kept = both_kept ◌+ℤ◌ sum_near p (pos 1048576) in_reach (lit≤ tt)
-
   -- it takes 21 bits
   raised_below : (r : ℕ) → pos r ≡ p +ℤ pos 1048576 → r < 2097152
   raised_below r e = le_trans {m = 1148579} (omega (arith, ap mag e, mag_sum p (pos 1048576))) (lit≤ tt)
 
 -- ---- and set back
-
-module _ (k : ℕ) (h : k < 2097152) where
-  low : mag (pos k) ≤ 1000000000
-  low = le_trans {m = 2097152} (omega arith) (lit≤ tt)
 
 -- what is unpacked, its power stored once more
 pub unpacked_is : (x : Packed) (p : ℤ) → p ≡ pos (x.bits / 1073741824 % 2097152) -ℤ pos 1048576
@@ -56,10 +39,6 @@ of_bits x = record { bits = x }
 -- ---- the mark at bit 51, above a number below it
 
 module _ {x : ℕ} (low : x < 2251799813685248) where
-  marked_fits : (k : Bool) → Fits w64 (x + mark_of k)
-  marked_fits true = omega arith
-  marked_fits false = omega arith
-
   mark_read : (k : Bool) → marked (of_bits (x + mark_of k)) ≡ k
   unfolding marked
   mark_read true = let one : (x + 2251799813685248) / 2251799813685248 ≡ 1 = omega arith in ap (λ (q : ℕ). eqb q 1) one

@@ -6,9 +6,9 @@ use native.Mathlib.Omega.{arith}
 use lib.ListN.{length, get_or, length-drop}
 use Rattle.word.specs.Model.{exits}
 use Rattle.model.specs.declared.index.Index.{Index}
-use Rattle.model.specs.Index.{Stands, exit_count, exits_of, place_of, slot, transition_at, no_transition, transition}
+use Rattle.model.specs.Index.{Stands, exit_count, exits_of, place_of, slot, no_transition, transition}
 use Rattle.word.proofs.Parts.{part_from}
-use Rattle.model.proofs.Slots.{counts_few, exits_slot, slot_below, slot_exit, stands_inside}
+use Rattle.model.proofs.Slots.{exits_slot, slot_below, slot_exit, stands_inside}
 use Rattle.tables.specs.Internal.Described.{Indexes, StandsFirst, described, net_of}
 use Rattle.tables.proofs.Classes.{step_valid}
 use Rattle.tables.proofs.Firsts.{part_at}

@@ -1,12 +1,10 @@
 -- The search for the least number whose cube or square reaches a figure. Assumes nothing.
 use mathlib.Core.Path.{◌≡◌, sym, ◌∙◌, ap}
 use Prim.Native.Nat.{ℕ, suc, suc-le-suc, ◌+◌, ◌*◌, ◌^◌, ◌≤◌, ◌<◌}
-use native.Mathlib.Nat.{le_of_suc-le-suc, le_antisymm, lt_of_not-le, le_trans, lt_irrefl, not-le_of_lt, pow-suc, pow-zero, pow-le-pow_left}
+use native.Mathlib.Nat.{lt_of_not-le, le_trans, lt_irrefl, not-le_of_lt, pow-suc, pow-zero, pow-le-pow_left}
 use native.Mathlib.Decide.{dec_le}
 use native.Mathlib.Omega.{arith}
 use lib.Dec.{T, lit≤, le→leb, leb→le}
-use mir.Syntax.{w64}
-use mir.Val.{Fits}
 use Rattle.figure.specs.declared.Figure.{Figure}
 use Rattle.std.specs.declared.option.Option.{Option}
 use Rattle.std.specs.declared.option.Option.TheVariants.{None, Some}

@@ -1,9 +1,8 @@
 -- The entries of the transitions' shares, factors and grains, with their marks, while they are filled: the law of the loop of
 -- `steps::fill_steps`. Assumes nothing.
-use Prim.Native.Nat.{ℕ, ◌+◌, ◌≤◌, ◌<◌}
+use Prim.Native.Nat.{ℕ, ◌+◌, ◌<◌}
 use mathlib.Core.Path.{◌≡◌, ap, ◌∙◌}
 use mathlib.Core.List.{List, []}
-use native.Mathlib.Omega.{arith}
 use lib.Dec.{lit≤}
 use lib.ListN.{length, get_or, set}
 use Rattle.figure.specs.Operands.{Sized}

@@ -2,8 +2,6 @@
 use Prim.Native.Nat.{ℕ, ◌≤◌}
 use mathlib.Core.Path.{◌≡◌, ap, ◌∙◌}
 use mathlib.Core.List.{List}
-use native.Mathlib.Nat.{le_trans}
-use lib.Dec.{lit≤}
 use lib.ListN.{length}
 use Rattle.figure.specs.declared.Rounded.{Rounded}
 use Rattle.model.specs.declared.Accepted.{Accepted}
