@@ -59,7 +59,7 @@ def declared(name, path, text):
         return re.search(heads, text, re.M) is not None
     if path.endswith(".rt"):
         text = comments_out(text, "//")
-        kinds = rf"\b(?:fn|struct|enum|const|type|mod|let|let mut) {whole(name)}"
+        kinds = rf"\b(?:fn|struct|enum|trait|const|type|mod|let|let mut) {whole(name)}"
         fields = rf"^\s*(?:pub )?{whole(name)}(?::|[,(])"
         clauses = rf"\b(?:requires|ensures)\*?(?: \w+)? \{{.*{whole(name)}"
         return any(re.search(r, text, re.M) for r in (kinds, fields, clauses))
