@@ -1,19 +1,19 @@
 -- The answer to a caller who lends rows, and the table of the rows to be filled, as they come about: a refusal before the walk, 13, or a report.
 -- Assumes nothing.
 use Prim.Native.Nat.{ℕ, ◌+◌, ◌≤◌, ◌<◌}
-use mathlib.Core.Path.{◌≡◌, refl, sym, ap, ◌∙◌, subst}
+use mathlib.Core.Path.{◌≡◌, refl, sym, ap, ap₂, ◌∙◌, subst}
 use mathlib.Core.Bool.{true, false}
-use mathlib.Core.List.{List}
+use mathlib.Core.List.{List, map}
 use native.Mathlib.Omega.{arith}
 use native.Mathlib.Nat.{le_trans}
 use lib.Dec.{ltb, lit≤}
-use lib.ListN.{length, get_or, replicate}
+use lib.ListN.{length, get_or, take}
+use lib.Seq.{get_or-take}
 use borrow.Author.Tests.{ltb-true, ltb-false}
 use Rattle.std.specs.Prelude.{Ok, Err}
 use Rattle.figure.specs.Rounding.{none}
 use Rattle.figure.specs.Operands.{Operand}
 use Rattle.figure.specs.Operations.{to_nine_down, sum_to_nine_up}
-use Rattle.figure.proofs.Gathered.{gathered_more}
 use Rattle.word.specs.declared.Refusal.{Refusal}
 use Rattle.word.specs.declared.Refusal.TheVariants.{TooFewRows, OverBudget}
 use Rattle.word.specs.Refusal.{number, place}
@@ -23,7 +23,8 @@ use Rattle.word.proofs.Members.{each_lookup, each_of_members}
 use Rattle.model.specs.Reading as reading
 use Rattle.model.proofs.ReadValid.{read_valid}
 use Rattle.tree.specs.Tree.{tree}
-use Rattle.tree.specs.Rows.{row_states, row_on, zero_row, rows_of}
+use Rattle.tree.specs.declared.Row.{Row}
+use Rattle.tree.specs.Rows.{row_states, row_on, zero_row}
 use Rattle.tree.specs.Internal.Tally as running
 use Rattle.tree.specs.Internal.Tally.{finish_row, zero_row_totals, nothing_kept, tally}
 use Rattle.tree.proofs.Computing.{computing}
@@ -32,40 +33,31 @@ use Rattle.tree.proofs.Ranges.{total_none, total_operand}
 use Rattle.tree.specs.Marks.{marks_with}
 use Rattle.tree.proofs.Answer.{walk_refused, walk_reported, walk_marks, marks_refused, marks_granted}
 use Rattle.tree.proofs.RowStates.{row_states_few, row_states_range}
-use Rattle.tree.proofs.RowAnswers.{RowsRefused, rows_read_refused, rows_read_few, rows_read_granted, rows_of_length, rows_of_over_at, rows_of_within_at}
+use Rattle.tree.proofs.RowAnswers.{RowsRefused, rows_read_refused, rows_read_few, rows_read_granted, rows_of_over, rows_of_within}
 use Rattle.path.specs.declared.counts.Counts.{Counts}
-use Rattle.rows.specs.Internal.Table.{row_count, row_state, totals_in, NamesKept, TableGathered}
-use Rattle.rows.specs.Internal.Filling.{row_in, Fits, Has}
+use Rattle.rows.specs.declared.table.RowTable.{RowTable}
+use Rattle.rows.specs.Internal.Table.{named_states, totals_in, NamesKept, Empty}
+use Rattle.rows.specs.Internal.Filling.{row_of, rows_in, Fits}
 use Rattle.rows.specs.Internal.Names.{Named}
-use Rattle.rows.proofs.RowTotals.{empty_rows}
 use Rattle.bounds.specs.declared.Report.{Report}
 use Rattle.bounds.specs.Answers.{report_of, marks_of}
 use Rattle.bounds.specs.Internal.Measured.{Measured}
 use Rattle.bounds.specs.Internal.Walk.{totals_of, kept_of, EndsOver, KeptCounted}
 
--- totals of at most as many terms as the greatest budget
-pub table_most : {n : ℕ} {table : List ℕ} → TableGathered n table → n ≤ 1000000 → TableGathered 1000000 table
-table_most h few = record {
-  size = h.size;
-  lower = gathered_more few h.lower;
-  death = gathered_more few h.death;
-  cut = gathered_more few h.cut;
-  each_row = λ s. record { lower = gathered_more few (h.each_row s).lower; upper = gathered_more few (h.each_row s).upper };
-}
-
 -- ---- no rows
 
-module _ (ws : List ℕ) (budget lent : ℕ) {table : List ℕ} (cleared : table ≡ replicate 5014 0) where
-  no_rows : row_count table ≡ 0
-  no_rows = ap (λ l. get_or l 0 0) cleared
-
+module _ (ws : List ℕ) (budget lent : ℕ) {table : RowTable} (empty : Empty table) where
   -- a refusal before the walk
   none_filled : (f : Refusal) → RowsRefused ws budget lent (number f) (place f) → Measured ws ws budget lent table (Err f)
   none_filled f h = record {
     answer_is = sym h.answers;
     marks_are = sym (ap (marks_with ws budget) h.answers ∙ marks_refused ws budget (number f) (place f));
-    has = record { count_is = no_rows ∙ ap length (sym h.fills); rows_are = λ i low. absurd (omega (arith, low, ap length h.fills)) };
-    fits = record { few = omega (arith, no_rows); room = omega (arith, no_rows); rows = λ i low. absurd (omega (arith, low, no_rows)) };
+    has = ap (λ n. map (row_of table) (take n table.states)) empty.no_rows ∙ sym h.fills;
+    fits = record {
+      few = omega (arith, empty.no_rows);
+      room = omega (arith, empty.no_rows);
+      rows = λ i low. absurd (omega (arith, low, empty.no_rows));
+    };
     words_unchanged = refl;
   }
 
@@ -97,12 +89,16 @@ module _ (m : Model) (high : m.states ≤ 1000) where
       le_trans (each_lookup (λ (s : ℕ). s ≤ m.states) (row_states m) i 0 each h) high
 
   -- a table that names them, as it is or after the walk
-  module _ {n : ℕ} {table after : List ℕ} (named : Named m table n) (names : NamesKept table after) where
-    count_there : row_count after ≡ length (row_states m)
-    count_there = names.same 0 (omega arith) ∙ named.stands ∙ named.count_is
+  module _ {table after : RowTable} (named : Named m table) (names : NamesKept table after) where
+    count_there : after.count ≡ length (row_states m)
+    count_there = names.count_same ∙ named.count_is
 
-    state_there : (i : ℕ) → i < length (row_states m) → row_state after i ≡ get_or (row_states m) i 0
-    state_there i h = names.same (i + 1) (omega (arith, few_rows)) ∙ named.states_are i (omega (arith, named.count_is))
+    states_there : named_states after ≡ row_states m
+    states_there = ap₂ take names.count_same names.states_same ∙ named.states_are
+
+    state_there : (i : ℕ) → i < length (row_states m) → get_or after.states i 0 ≡ get_or (row_states m) i 0
+    state_there i h =
+        sym (get_or-take after.count after.states i 0 (omega (arith, count_there, h))) ∙ ap (λ (l : List ℕ). get_or l i 0) states_there
 
     fits_there : {lent : ℕ} → length (row_states m) ≤ lent → ((s : ℕ) → Operand 18 (totals_in after s).lower × Operand 18 (totals_in after s).upper) → Fits after lent
     fits_there {lent} enough fine = record {
@@ -111,64 +107,54 @@ module _ (m : Model) (high : m.states ≤ 1000) where
       rows = λ i h.
           let low : i < length (row_states m) = omega (arith, count_there, h) in
           record {
-            inside = omega (arith, few_rows);
             state_small = rw (state_there i low) (state_low i low);
-            lower = (fine (row_state after i)).0;
-            upper = (fine (row_state after i)).1;
+            lower = (fine (get_or after.states i 0)).0;
+            upper = (fine (get_or after.states i 0)).1;
           };
     }
 
-    -- where row i is what f makes of its state
-    has_there : (budget : ℕ) → ((i : ℕ) → i < length (row_states m)
-        → finish_row (get_or (row_states m) i 0) (totals_in after (get_or (row_states m) i 0)) ≡ get_or (rows_of budget m) i (zero_row 0))
-        → Has after (rows_of budget m)
-    unfolding row_in
-    has_there budget each = record {
-      count_is = count_there ∙ sym (rows_of_length budget m);
-      rows_are = λ i h.
-          let low : i < length (row_states m) = omega (arith, rows_of_length budget m, h) in
-          ap (λ s. finish_row s (totals_in after s)) (state_there i low) ∙ each i low;
-    }
+    -- where the row of each state is what f makes of it
+    has_there : (f : ℕ → Row) → ((s : ℕ) → finish_row s (totals_in after s) ≡ f s) → rows_in after ≡ map f (row_states m)
+    unfolding row_of
+    has_there f each = ap₂ map (λ i s. each s i) states_there
 
 module _ (ws : List ℕ) (budget lent : ℕ) {m : Model} (read : reading.read ws budget ≡ answers.granted m)
     (enough : length (row_states m) ≤ lent) where
   high : m.states ≤ 1000
   high = (read_valid ws budget m read).states_high
 
-  module _ {t : Counts} (after : List ℕ) (ends : EndsOver m.net budget nothing_kept (tree m.net m.limits) t after) where
+  module _ {t : Counts} (after : RowTable) (ends : EndsOver m.net budget nothing_kept (tree m.net m.limits) t after) where
     -- the walk went over the budget, and the rows were named anew
-    pub measured_over : {table : List ℕ} {n : ℕ} → Named m table n → ltb budget t.steps ≡ true → Measured ws ws budget lent table (Err OverBudget)
+    pub measured_over : {table : RowTable} → Named m table → ltb budget t.steps ≡ true → Measured ws ws budget lent table (Err OverBudget)
     unfolding finish_row
-    measured_over {table} {n} named over =
+    measured_over {table} named over =
         let granted = rows_read_granted ws budget lent read enough in
         let more : budget < length (tree m.net m.limits) = omega (arith, ltb-true budget (0 + length (tree m.net m.limits)) (sym ends.over_is ∙ over)) in
-        let kept : NamesKept table table = record { size = refl; same = λ i h. refl } in
+        let kept : NamesKept table table = record { count_same = refl; states_same = refl } in
         record {
           answer_is = sym (granted.answers ∙ walk_refused budget m _ _ ends over);
           marks_are = sym (ap (marks_with ws budget) (granted.answers ∙ walk_refused budget m _ _ ends over) ∙ marks_refused ws budget 13 0);
-          has = subst (Has table) (sym granted.fills) (has_there m high named kept budget
-              (λ i h. zero_there named (get_or (row_states m) i 0) ∙ sym (rows_of_over_at budget m i (zero_row 0) h more)));
+          has = has_there m high named kept zero_row (zero_there named) ∙ sym (granted.fills ∙ rows_of_over budget m more);
           fits = fits_there m high named kept enough
-              (λ s. rw (empty_rows named.no_totals) (total_operand total_none (lit≤ tt), total_operand total_none (lit≤ tt)));
+              (λ s. rw named.no_totals.rows_are (total_operand total_none (lit≤ tt), total_operand total_none (lit≤ tt)));
           words_unchanged = refl;
         }
       where
-        zero_there : Named m table n → (s : ℕ) → finish_row s (totals_in table s) ≡ zero_row s
-        zero_there named s = rw (empty_rows named.no_totals) (λ i. record { state = s; lower = none_nine i; upper = none_sum i })
+        zero_there : Named m table → (s : ℕ) → finish_row s (totals_in table s) ≡ zero_row s
+        zero_there named s = rw named.no_totals.rows_are (λ i. record { state = s; lower = none_nine i; upper = none_sum i })
 
     -- a report
-    pub measured_report : {table : List ℕ} {n : ℕ} → Named m table n → NamesKept table after → KeptCounted t after → t.steps ≤ 1000000
+    pub measured_report : {table : RowTable} → Named m table → NamesKept table after → KeptCounted t after → t.steps ≤ 1000000
         → (q : Report) → report_of q ≡ running.finish (totals_of t after) → marks_of q ≡ running.finish_marks (kept_of t after)
         → ltb budget t.steps ≡ false → Measured ws ws budget lent after (Ok q)
-    measured_report {table} {n} named names counted few q is marks within =
+    measured_report {table} named names counted few q is marks within =
         let granted = rows_read_granted ws budget lent read enough in
         let less : length (tree m.net m.limits) ≤ budget = omega (arith, ltb-false budget (0 + length (tree m.net m.limits)) (sym ends.over_is ∙ within)) in
         record {
           answer_is = ap answers.granted is ∙ sym (granted.answers ∙ walk_reported budget m _ _ ends within);
           marks_are = marks ∙ walk_marks budget m _ _ ends within
               ∙ sym (ap (marks_with ws budget) (granted.answers ∙ walk_reported budget m _ _ ends within) ∙ marks_granted ws budget m _ read);
-          has = subst (Has after) (sym granted.fills) (has_there m high named names budget
-              (λ i h. row_there (get_or (row_states m) i 0) ∙ sym (rows_of_within_at budget m i (zero_row 0) h less)));
+          has = has_there m high named names (row_on m.net (tree m.net m.limits)) row_there ∙ sym (granted.fills ∙ rows_of_within budget m less);
           fits = fits_there m high named names enough
               (λ s. let g = counted.totals.each_row s in (total_operand g.lower (le_trans few (lit≤ tt)), total_operand g.upper (le_trans few (lit≤ tt))));
           words_unchanged = refl;

@@ -2,13 +2,12 @@
 use Prim.Native.Nat.{ℕ}
 use mathlib.Core.Path.{◌≡◌, sym, ap, ◌∙◌}
 use mathlib.Core.List.{List}
-use native.Mathlib.Omega.{arith}
 use lib.ListN.{length, get_or}
 use Rattle.std.specs.Prelude.{Result}
 use Rattle.word.specs.declared.Refusal.{Refusal}
 use Rattle.tree.specs.declared.Row.{Row}
 use Rattle.tree.specs.Report as definition
-use Rattle.tree.specs.Rows.{answer_with_rows, filled_rows, rows_after}
+use Rattle.tree.specs.Rows.{answer_with_rows, laid_over, rows_after}
 use Rattle.tree.proofs.RowAnswers.{answer_by_rows, few_by_rows, rows_read_few}
 use Rattle.tree.proofs.RowTables.{rows_refused_over, rows_over_refused, rows_after_length, rows_after_beyond, rows_after_unchanged, rows_after_zero}
 use Rattle.tree.specs.Marks.{marks_with}
@@ -16,9 +15,8 @@ use Rattle.accuracy.specs.RowRule.{RowRule}
 use Rattle.accuracy.proofs.Theorem.{accuracy_theorem}
 use Rattle.accuracy.proofs.Rows.{row_theorem}
 use Rattle.accuracy.proofs.Exactness.{row_mark_theorem}
-use Rattle.rows.specs.Internal.Table.{row_count}
-use Rattle.rows.specs.Internal.Filling.{row_in, stored}
-use Rattle.rows.proofs.RowsStored.{stored_laid_over}
+use Rattle.rows.specs.declared.table.RowTable.{RowTable}
+use Rattle.rows.specs.Internal.Filling.{rows_in}
 use Rattle.bounds.proofs.Faithful.{faithful}
 use Rattle.bounds.specs.declared.Report.{Report}
 use Rattle.bounds.specs.Answers.{answer_of, marks_of_answer}
@@ -52,17 +50,9 @@ module _ (ws : List ℕ) (budget : ℕ) (given left : List Row) (r : Result Repo
       row_rule = rw (is, rows) (row_theorem ws budget given)
 
 -- the table's rows are laid over the caller's
-pub promise_rows : (before after : List ℕ) (budget : ℕ) (given left : List Row) (r : Result Report Refusal) (table : List ℕ)
-    → Measured before after budget (length given) table r → left ≡ stored (row_in table) (row_count table) given
+pub promise_rows : (before after : List ℕ) (budget : ℕ) (given left : List Row) (r : Result Report Refusal) (table : RowTable)
+    → Measured before after budget (length given) table r → left ≡ laid_over (rows_in table) given
     → PromisedRows before after budget given left r
 unfolding rows_after
 promise_rows before after budget given left r table h e =
-    promised before budget given left r h.answer_is (e ∙ laid) h.marks_are after h.words_unchanged
-  where
-    filled : List Row
-    filled = filled_rows before budget (length given)
-
-    laid : stored (row_in table) (row_count table) given ≡ rows_after before budget given
-    laid =
-        ap (λ n. stored (row_in table) n given) h.has.count_is
-        ∙ stored_laid_over (row_in table) filled given (omega (arith, h.has.count_is, h.fits.room)) h.has.rows_are
+    promised before budget given left r h.answer_is (e ∙ ap (λ rows. laid_over rows given) h.has) h.marks_are after h.words_unchanged

@@ -2,53 +2,53 @@
 -- begin at the start. Assumes nothing.
 use Prim.Native.Nat.{ℕ, ◌≤◌, ◌<◌}
 use mathlib.Core.Path.{◌≡◌, refl, sym, ap, ap₂, ◌∙◌, subst}
-use mathlib.Core.List.{List}
+use mathlib.Core.List.{List, []}
 use native.Mathlib.Omega.{arith}
 use native.Mathlib.Nat.{le_trans, add-zero, zero-add}
 use lib.Dec.{lit≤}
 use lib.ListN.{set, replicate}
 use Rattle.figure.specs.declared.Figure.{Figure}
 use Rattle.figure.specs.Operations.{of_whole}
+use Rattle.std.specs.Prelude.{Result, Ok, Err}
 use Rattle.word.specs.declared.Refusal.{Refusal}
 use Rattle.word.specs.Model.{Model}
 use Rattle.word.specs.Answer as answers
 use Rattle.model.specs.declared.Accepted.{Accepted}
-use Rattle.model.specs.declared.Reading.{Reading}
-use Rattle.model.specs.declared.Reading.TheVariants.{Accepted as accepted, Refused as refusal}
+use Rattle.model.specs.declared.index.Index.{Index}
 use Rattle.model.specs.Reading as reading
 use Rattle.model.specs.Promise.{summary, Accepts, Refuses, Answers}
 use Rattle.model.specs.Index.{Indexed}
 use Rattle.model.specs.Internal.Valid.{Valid}
 use Rattle.model.proofs.ReadValid.{read_valid}
 use Rattle.model.proofs.Refusals.{read_reads, read_budget}
-use Rattle.tree.specs.States.{figure_of}
+use Rattle.tree.specs.States.{figure_of, mission_time}
 use Rattle.tree.specs.Tree.{tree, Visit}
 use Rattle.tree.specs.Internal.Carried.{at_start}
 use Rattle.tree.specs.Internal.Tally.{Kept, nothing_kept}
 use Rattle.tree.proofs.Carried.{start_carries, carried_tree}
 use Rattle.tables.specs.Internal.Described.{Indexes, described}
-use Rattle.tables.specs.Internal.Tables.{Tabled}
+use Rattle.tables.specs.declared.table.Table.{Table}
 use Rattle.bounds.specs.declared.walk.Task.{Task}
 use Rattle.path.specs.declared.exits.Tip.{Tip}
 use Rattle.path.specs.declared.counts.Counts.{Counts}
 use Rattle.path.specs.Internal.Lent.{lent}
 use Rattle.path.specs.Internal.Paths.{path_of}
 use Rattle.path.specs.Internal.Counts.{no_counts}
+use Rattle.rows.specs.declared.table.RowTable.{RowTable}
 use Rattle.rows.specs.Internal.Table.{NoTotals}
-use Rattle.rows.proofs.RowTotals.{empty_total, empty_rows, empty_gathered}
-use Rattle.rows.proofs.RowMarks.{empty_marks}
+use Rattle.rows.proofs.RowTotals.{empty_gathered}
 use Rattle.bounds.specs.Internal.Walk.{Asked, asked, carried_in, carried_of, kept_of, visits_from, Ready, EndsOver, WalkedBeyond, WalkedTree}
 
 -- ---- an accepted reading
 
-module _ {ws index : List ℕ} {budget : ℕ} {r : Reading} (answer : Answers ws budget index r) where
-  pub accepts_of : {a : Accepted} → r ≡ accepted a → Accepts ws budget index a
+module _ {ws : List ℕ} {index : Index} {budget : ℕ} {r : Result Accepted Refusal} (answer : Answers ws budget index r) where
+  pub accepts_of : {a : Accepted} → r ≡ Ok a → Accepts ws budget index a
   accepts_of e = subst (Answers ws budget index) e answer
 
-  pub refuses_of : {f : Refusal} → r ≡ refusal f → Refuses ws budget index f
+  pub refuses_of : {f : Refusal} → r ≡ Err f → Refuses ws budget index f
   refuses_of e = subst (Answers ws budget index) e answer
 
-module _ {ws index : List ℕ} {budget : ℕ} {a : Accepted} (accepts : Accepts ws budget index a) where
+module _ {ws : List ℕ} {index : Index} {budget : ℕ} {a : Accepted} (accepts : Accepts ws budget index a) where
   described_is : described ws ≡ accepts.model
   unfolding described
   described_is = rw (read_reads ws budget accepts.model accepts.reads) refl
@@ -68,9 +68,13 @@ module _ {ws index : List ℕ} {budget : ℕ} {a : Accepted} (accepts : Accepts 
   pub accepted_budget : budget ≤ 1000000
   accepted_budget = (read_budget ws budget accepts.model accepts.reads).1
 
+-- counts that are each 0
+pub none_counted : (c : Counts) → (c.deaths ≡ 0) × ((c.cuts ≡ 0) × (c.steps ≡ 0)) → c ≡ no_counts
+none_counted c h = λ i. record { deaths = h.0 i; cuts = h.1.0 i; steps = h.1.1 i }
+
 -- ---- what the first four words give
 
-module _ {ws index : List ℕ} (indexes : Indexes ws index) {a : Accepted} (is : a ≡ summary (described ws)) where
+module _ {ws : List ℕ} {index : Index} (indexes : Indexes ws index) {a : Accepted} (is : a ≡ summary (described ws)) where
   abbrev m : Model
   m = described ws
 
@@ -85,11 +89,14 @@ module _ {ws index : List ℕ} (indexes : Indexes ws index) {a : Accepted} (is :
   pub prune_scale : a.prune.scale ≤ 255
   prune_scale = rw is (le_trans indexes.valid.prune.scale (lit≤ tt))
 
-  -- the table is filled: the walk may begin at the start
-  module _ {table : List ℕ} (tabled : Tabled ws table) {time level u : Figure} (time_is : time ≡ figure_of a.time)
-      (level_is : level ≡ figure_of a.prune) (one : u ≡ of_whole 1) (budget : ℕ) (few : budget ≤ 1000000) where
+  -- the mission time
+  pub time_prepared : {time : Figure} → time ≡ figure_of a.time → time ≡ mission_time m.net
+  time_prepared e = e ∙ ap (λ (x : Accepted). figure_of x.time) is
+
+  -- the walk may begin at the start
+  module _ {level u : Figure} (level_is : level ≡ figure_of a.prune) (one : u ≡ of_whole 1) (budget : ℕ) (few : budget ≤ 1000000) where
     abbrev task : Task
-    task = record { time = time; level = level; entry_limit = a.entry_limit; budget = budget }
+    task = record { level = level; entry_limit = a.entry_limit; budget = budget }
 
     abbrev tip : Tip
     tip = record { state = a.start; upper = u; ones = 0; len = 0 }
@@ -97,39 +104,38 @@ module _ {ws index : List ℕ} (indexes : Indexes ws index) {a : Accepted} (is :
     abbrev entered : List ℕ
     entered = set (replicate 1001 0) a.start 1
 
-    at_the_start : (path : List ℕ) → carried_of m.net path tip entered ≡ at_start m.net
+    at_the_start : carried_of m.net [] tip entered ≡ at_start m.net
     unfolding at_start path_of
-    at_the_start path = rw (one, is) refl
+    at_the_start = rw (one, is) refl
 
-    module _ (path : List ℕ) {counts : Counts} (none_yet : counts ≡ no_counts) (rows : List ℕ) (empty : NoTotals rows) where
+    module _ {counts : Counts} (none_yet : counts ≡ no_counts) (rows : RowTable) (empty : NoTotals rows) where
       abbrev first : Asked
-      first = asked task tip a.step_limit entered path counts rows
+      first = asked task tip a.step_limit entered [] counts rows
 
       nothing_so_far : kept_of counts rows ≡ nothing_kept
       nothing_so_far = rw none_yet (λ i. record {
         totals = record {
-          lower = empty_total empty 1002 (omega arith) i;
-          death_upper = empty_total empty 1004 (omega arith) i;
-          cut_upper = empty_total empty 1006 (omega arith) i;
+          lower = empty.lower_is i;
+          death_upper = empty.death_is i;
+          cut_upper = empty.cut_is i;
           deaths = 0;
           cuts = 0;
           steps = 0;
         };
-        rows = empty_rows empty i;
-        marks = empty_marks empty i;
+        rows = empty.rows_are i;
+        marks = empty.marks_are i;
       })
 
-      pub walk_ready : Ready (lent ws index table) first
-      walk_ready = record {
-        filled = record { indexes = indexes; tabled = tabled };
+      pub walk_ready : {table : Table} → Ready (lent ws index table) first
+      walk_ready {table} = record {
         task_is = record {
-          time_is = time_is ∙ ap (λ (x : Accepted). figure_of x.time) is;
           level_is = level_is ∙ ap (λ (x : Accepted). figure_of x.prune) is;
           entry_limit_is = ap (λ (x : Accepted). x.entry_limit) is;
           budget_high = few;
         };
-        known = record { short = omega arith; inside = λ i h. absurd (omega arith) };
-        carries = rw (at_the_start path) (start_carries m.net (omega (arith, indexes.valid.start_high, indexes.valid.states_high)));
+        known = record { short = omega arith; inside = λ i d h. absurd (omega arith) };
+        length_is = refl;
+        carries = rw at_the_start (start_carries m.net (omega (arith, indexes.valid.start_high, indexes.valid.states_high)));
         state_low = rw is indexes.valid.start_low;
         state_high = rw is indexes.valid.start_high;
         depth = add-zero a.step_limit ∙ ap (λ (x : Accepted). x.step_limit) is;
@@ -139,11 +145,11 @@ module _ {ws index : List ℕ} (indexes : Indexes ws index) {a : Accepted} (is :
       }
 
       -- and the walk from there is the one over the tree
-      pub walk_tree : {r : Counts} {after : List ℕ} → WalkedBeyond (lent ws index table) first r after → WalkedTree ws budget r rows after
+      pub walk_tree : {table : Table} {r : Counts} {after : RowTable} → WalkedBeyond (lent ws index table) first r after → WalkedTree ws budget r rows after
       unfolding path_of tree
-      walk_tree {r} {after} done =
+      walk_tree {table} {r} {after} done =
           let e : visits_from (lent ws index table) a.step_limit (carried_in (lent ws index table) first) ≡ tree m.net m.limits =
-          ap₂ (visits_from (lent ws index table)) (ap (λ (x : Accepted). x.step_limit) is) (at_the_start path) ∙ carried_tree m indexes.valid in
+          ap₂ (visits_from (lent ws index table)) (ap (λ (x : Accepted). x.step_limit) is) at_the_start ∙ carried_tree m indexes.valid in
           record {
             ends = subst (λ (w : Kept). EndsOver m.net budget w (tree m.net m.limits) r after) nothing_so_far
                 (subst (λ (vs : List Visit). EndsOver m.net budget (kept_of counts rows) vs r after) e done.ends);

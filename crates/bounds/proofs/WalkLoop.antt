@@ -6,13 +6,14 @@ use mathlib.Core.Bool.{Bool, true, false, true≢false}
 use mathlib.Core.List.{List}
 use native.Mathlib.Omega.{arith}
 use lib.Dec.{ltb, lit≤}
-use lib.ListN.{length}
+use lib.ListN.{length, get_or, take}
+use lib.Seq.{get_or-take}
 use borrow.Author.Tests.{lt-ltb, le-ltb}
 use Rattle.figure.proofs.Sized.{sized-≤}
 use Rattle.word.specs.Model.{exits}
 use Rattle.model.specs.Internal.Valid.{Valid}
-use Rattle.model.specs.Index.{exit_count}
-use Rattle.model.proofs.Slots.{counts_few, slot_below, slot_leaves}
+use Rattle.model.specs.Index.{exits_at, exits_of, slot, exit_count}
+use Rattle.model.proofs.Slots.{slot_below, slot_leaves}
 use Rattle.tree.proofs.Positive.{ValidSteps}
 use Rattle.tree.proofs.Ranges.{any_upper_sized, class1_count-≤}
 use Rattle.tree.specs.Internal.Carried.{Carried}
@@ -22,16 +23,16 @@ use Rattle.tree.specs.Internal.Going.{Walked}
 use Rattle.tree.proofs.Going.{Going, exits_start, exits_end, exit_over}
 use Rattle.path.specs.declared.counts.Counts.{Counts}
 use Rattle.path.specs.declared.deaths.Cache.{Cache}
-use Rattle.path.specs.Internal.Lent.{Lent, model_in, net_in, limits_in}
+use Rattle.path.specs.Internal.Lent.{Lent, Filled, model_in, net_in, limits_in}
 use Rattle.path.specs.Internal.Paths.{path_of}
 use Rattle.path.specs.Internal.Counts.{step_more}
+use Rattle.rows.specs.declared.table.RowTable.{RowTable}
 use Rattle.rows.specs.Internal.Table.{NamesKept}
 use Rattle.rows.proofs.RowTotals.{table_step}
 use Rattle.path.specs.Internal.Exits.{ExitReady}
 use Rattle.path.specs.Internal.Deaths.{Cached}
 use Rattle.bounds.specs.Internal.Walk.{Asked, carried_in, kept_of, KeptCounted, Ready, Ends, visits_from, visits_beyond}
 use Rattle.path.proofs.PathSums.{path_length, path_valid}
-use Rattle.path.proofs.PathArrays.{SameBelow}
 
 -- what the loop holds at exit i: the entry counts, the path, the totals so far, the cache, and the table of rows with their totals
 pub record Held : Type 0 where
@@ -40,9 +41,9 @@ pub record Held : Type 0 where
   pub taken : List ℕ
   pub made : Counts
   pub cache : Cache
-  pub rows : List ℕ
+  pub rows : RowTable
 
-abbrev pub held : ℕ → List ℕ → List ℕ → Counts → Cache → List ℕ → Held
+abbrev pub held : ℕ → List ℕ → List ℕ → Counts → Cache → RowTable → Held
 held i entered taken made cache rows = record { i = i; entered = entered; taken = taken; made = made; cache = cache; rows = rows }
 
 -- At exit i: the entry counts are set back, the path in the array is as it was up to the tip, the rows are named as they were, and the totals so far,
@@ -50,30 +51,30 @@ held i entered taken made cache rows = record { i = i; entered = entered; taken 
 pub record AtExit (l : Lent) (a : Asked) (h : Held) : Type 0 where
   pub set_back : h.entered ≡ a.entered
   pub size : length h.taken ≡ 24
-  pub same : SameBelow a.tip.len h.taken a.path
-  pub cached : Cached (net_in l) (path_of (net_in l) a.path a.tip.len) a.tip.state h.cache
+  pub same : take a.tip.len h.taken ≡ a.path
+  pub cached : Cached (net_in l) (path_of (net_in l) a.path) a.tip.state h.cache
   pub counted : KeptCounted h.made h.rows
   pub names_kept : NamesKept a.rows h.rows
   pub going : Going (net_in l) a.task.budget (kept_of a.counts a.rows) (visits_from l (suc (a.left - 1)) (carried_in l a))
       (rest (net_in l) (limits_in l) (a.left - 1) (carried_in l a) h.i) (kept_of h.made h.rows)
 
-pub exit_same : {l : Lent} {a : Asked} {i : ℕ} {entered taken f k : List ℕ} {made r : Counts} {cache c : Cache} {rows t : List ℕ}
+pub exit_same : {l : Lent} {a : Asked} {i : ℕ} {entered taken f k : List ℕ} {made r : Counts} {cache c : Cache} {rows t : RowTable}
     → f ≡ entered → k ≡ taken → r ≡ made → c ≡ cache → t ≡ rows → AtExit l a (held i entered taken made cache rows) → AtExit l a (held i f k r c t)
 exit_same p q r s t h = rw (p, q, r, s, t) h
 
 -- one step more that adds nothing to a total
-pub step_counted : {t u : Counts} {rows : List ℕ} → u ≡ step_more t → KeptCounted t rows → KeptCounted u rows
+pub step_counted : {t u : Counts} {rows : RowTable} → u ≡ step_more t → KeptCounted t rows → KeptCounted u rows
 step_counted is h = rw is (record {
   counts = record { deaths = omega (arith, h.counts.deaths); cuts = omega (arith, h.counts.cuts) };
   totals = table_step h.totals;
 })
 
-module _ {l : Lent} {a : Asked} (ready : Ready l a) where
+module _ {l : Lent} {a : Asked} (filled : Filled l) (ready : Ready l a) where
   abbrev here : Carried
   here = carried_in l a
 
   abbrev valid : Valid (model_in l)
-  valid = ready.filled.indexes.valid
+  valid = filled.indexes.valid
 
   pub state_small : a.tip.state ≤ 1000
   state_small = omega (arith, ready.state_high, valid.states_high)
@@ -83,55 +84,59 @@ module _ {l : Lent} {a : Asked} (ready : Ready l a) where
 
   -- ---- the path up to the tip
 
-  pub path_short : length (path_of (net_in l) a.path a.tip.len) < 24
-  path_short = omega (arith, path_length (net_in l) a.path a.tip.len, room)
+  pub path_short : length (path_of (net_in l) a.path) < 24
+  path_short = omega (arith, path_length (net_in l) a.path, ready.length_is, room)
 
-  pub steps_valid : ValidSteps (path_of (net_in l) a.path a.tip.len)
-  steps_valid = path_valid valid a.path a.tip.len ready.known
+  pub steps_valid : ValidSteps (path_of (net_in l) a.path)
+  steps_valid = path_valid valid a.path ready.known
 
   pub ones_few : a.tip.ones < 24
-  ones_few = omega (arith, ready.carries.ones, class1_count-≤ (net_in l) (path_of (net_in l) a.path a.tip.len), path_short)
+  ones_few = omega (arith, ready.carries.ones, class1_count-≤ (net_in l) (path_of (net_in l) a.path), path_short)
 
   -- ---- the exits of its last state
 
   count_is : exit_count l.index a.tip.state ≡ length (exits (net_in l) a.tip.state)
-  count_is = ready.filled.indexes.indexed.counts_are a.tip.state state_small
+  count_is = filled.indexes.indexed.counts_are a.tip.state state_small
 
   pub is_exit : {i : ℕ} → i < exit_count l.index a.tip.state → i < length (exits (net_in l) a.tip.state)
   is_exit h = omega (arith, count_is)
 
-  pub exit_ready : {i : ℕ} → i < exit_count l.index a.tip.state → ExitReady l a.task.time a.tip i
-  exit_ready {i} h =
-      let x = ready.filled.indexes.indexed in
-      record {
-        filled = ready.filled;
-        time_is = ready.task_is.time_is;
-        few = omega (arith, counts_few (model_in l) l.words l.index valid x a.tip.state state_small);
+  -- the exit i, as the slice of the state's exits has it
+  pub exit_slot : {i : ℕ} {leaving : List ℕ} → i < exit_count l.index a.tip.state → leaving ≡ exits_of l.index a.tip.state
+      → get_or leaving i 0 ≡ slot l.index a.tip.state i
+  exit_slot {i} h is =
+      ap (λ (xs : List ℕ). get_or xs i 0) is ∙ get_or-take (exit_count l.index a.tip.state) (exits_at l.index a.tip.state).slots i 0 h
+
+  pub exit_ready : {i : ℕ} {leaving : List ℕ} → i < exit_count l.index a.tip.state → leaving ≡ exits_of l.index a.tip.state
+      → ExitReady l a.tip (get_or leaving i 0)
+  exit_ready {i} h is =
+      let x = filled.indexes.indexed in
+      rw (exit_slot h is) (record {
         index = slot_below (model_in l) l.words l.index valid x a.tip.state i state_small h;
         leaves = slot_leaves (model_in l) l.words l.index valid x a.tip.state i state_small h;
         upper = rw ready.carries.upper
-            (sized-≤ (lit≤ tt) (any_upper_sized valid (path_of (net_in l) a.path a.tip.len) (omega (arith, path_short)) steps_valid));
+            (sized-≤ (lit≤ tt) (any_upper_sized valid (path_of (net_in l) a.path) (omega (arith, path_short)) steps_valid));
         ones = ones_few;
         room = room;
-      }
+      })
 
   -- ---- the loop begins and ends
 
-  pub loop_start : {cache : Cache} → length a.path ≡ 24
-      → Cached (net_in l) (path_of (net_in l) a.path a.tip.len) a.tip.state cache
-      → AtExit l a (held 0 a.entered a.path a.counts cache a.rows)
-  loop_start size known = record {
+  pub loop_start : {cache : Cache} {path : List ℕ} → length path ≡ 24 → take a.tip.len path ≡ a.path
+      → Cached (net_in l) (path_of (net_in l) a.path) a.tip.state cache
+      → AtExit l a (held 0 a.entered path a.counts cache a.rows)
+  loop_start size same known = record {
     set_back = refl;
     size = size;
-    same = λ n h. refl;
+    same = same;
     cached = known;
     counted = ready.counted;
-    names_kept = record { size = refl; same = λ i h. refl };
+    names_kept = record { count_same = refl; states_same = refl };
     going = exits_start (net_in l) (limits_in l) a.task.budget (a.left - 1) here (kept_of a.counts a.rows) ready.within;
   }
 
   -- the steps handed back tell whether they are past the budget
-  pub ends_by : (over : Bool) {r : Counts} (rows : List ℕ) → ltb a.task.budget r.steps ≡ over
+  pub ends_by : (over : Bool) {r : Counts} (rows : RowTable) → ltb a.task.budget r.steps ≡ over
       → Walked (net_in l) a.task.budget (kept_of a.counts a.rows) (visits_from l (suc (a.left - 1)) here) over (kept_of r rows) → Ends l a r rows
   ends_by over {r} rows o k =
       let n : suc (a.left - 1) ≡ a.left = omega (arith, ready.more) in
@@ -139,13 +144,13 @@ module _ {l : Lent} {a : Asked} (ready : Ready l a) where
       (subst (λ b. Walked (net_in l) a.task.budget (kept_of a.counts a.rows) (visits_from l (suc (a.left - 1)) here) b (kept_of r rows)) (sym o) k)
 
   -- where the budget was not passed, the steps are those of the cut tree beyond the path
-  pub ends_steps : {r : Counts} (rows : List ℕ) → Ends l a r rows → r.steps ≤ a.task.budget → r.steps ≡ a.counts.steps + length (visits_beyond l a)
+  pub ends_steps : {r : Counts} (rows : RowTable) → Ends l a r rows → r.steps ≤ a.task.budget → r.steps ≡ a.counts.steps + length (visits_beyond l a)
   ends_steps {r} rows ends within =
       ap (λ t. t.totals.steps) (ends.totals_are (le-ltb a.task.budget r.steps within))
       ∙ tally_steps (net_in l) (kept_of a.counts a.rows) (visits_from l a.left here)
       ∙ ap (λ vs. a.counts.steps + length vs)
       (carried_is (net_in l) (limits_in l) (valid_known (model_in l) valid) a.left here ready.carries
-      (omega (arith, ready.depth, path_length (net_in l) a.path a.tip.len)))
+      (omega (arith, ready.depth, ready.length_is, path_length (net_in l) a.path)))
 
   module _ {h : Held} (kept : AtExit l a h) where
     pub steps_few : h.made.steps ≤ 1000000

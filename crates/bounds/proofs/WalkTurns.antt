@@ -2,29 +2,34 @@
 use Prim.Native.Nat.{ℕ, ◌+◌, ◌-◌, ◌^◌, ◌≤◌, ◌<◌}
 use mathlib.Core.Path.{◌≡◌, refl, sym, ap, ap₂, ◌∙◌, subst}
 use mathlib.Core.Bool.{Bool, true, false, ◌&&◌}
-use mathlib.Core.List.{List, ◌∷◌}
+use mathlib.Core.Logic.{◌⊎◌, inl, inr}
+use mathlib.Core.List.{List, [], ◌∷◌}
 use native.Mathlib.Omega.{arith}
 use native.Mathlib.Nat.{le_trans}
 use native.Mathlib.Numerals.{add-one}
 use lib.Dec.{ltb, eqb, lit≤}
-use lib.ListN.{length, get_or, set, length-set}
+use lib.ListN.{length, get_or, take, set, length-set}
 use lib.Seq.{set-set, set-get_or}
 use borrow.Author.Tests.{lt-ltb, le-ltb}
+use Rattle.std.proofs.Common.{◌++◌, take-take}
+use Rattle.std.proofs.lemmas.List.{take-set, take_more_set, length-append}
+use Rattle.std.specs.Prelude.{Option, Some, None}
 use Rattle.figure.specs.declared.Figure.{Figure}
 use Rattle.figure.specs.Rounding.{IsFigure}
 use Rattle.figure.specs.Operands.{Sized}
 use Rattle.figure.specs.Operations.{total_up, total_down}
+use Rattle.figure.specs.Losses.{total_keeps}
 use Rattle.figure.proofs.Sized.{sized-≤}
 use Rattle.word.specs.Model.{Transition, Net, is_empty, is_named, exits}
 use Rattle.word.specs.Internal.Lists.{Each}
 use Rattle.word.proofs.Members.{is_empty_length}
 use Rattle.word.proofs.Tests.{flag_test}
-use Rattle.model.specs.Index.{no_transition, transition, exit_count}
+use Rattle.model.specs.Index.{no_transition, transition, slot, exits_of, exit_count}
 use Rattle.model.specs.Internal.Valid.{ValidTransition, Valid}
 use Rattle.model.proofs.Slots.{slot_below, slot_exit, slot_leaves}
 use Rattle.tree.specs.Paths.{Path}
 use Rattle.tree.specs.Lower.{lower}
-use Rattle.tree.specs.Marks.{Marks, path_marks}
+use Rattle.tree.specs.Marks.{Marks, path_marks, upper_kept}
 use Rattle.tree.specs.Tree.{Outcome, is_death, is_continued}
 use Rattle.tree.proofs.Outcomes.{is_continued_true}
 use Rattle.tree.proofs.Ranges.{any_upper_sized, prune_sized}
@@ -34,33 +39,34 @@ use Rattle.tree.proofs.Carried.{carry_upper, carry_carries, GoesOnBy, continued_
 use Rattle.tree.proofs.Going.{exit_totals, exit_within, exit_ended, exit_back, exit_below_over}
 use Rattle.tables.proofs.Classes.{step_valid}
 use Rattle.path.specs.declared.outcome.Outcome.{Outcome as Coded}
+use Rattle.path.specs.declared.outcome.Outcome.TheVariants.{GeneratorsState, EnteredTooOften, StepLimit, LowLevel}
 use Rattle.path.specs.declared.counts.Counts.{Counts}
 use Rattle.path.specs.declared.deaths.Cache.{Cache}
 use Rattle.path.specs.declared.exits.Exit.{Exit}
-use Rattle.path.specs.Internal.Lent.{Lent, model_in, net_in, limits_in}
-use Rattle.path.specs.Internal.Paths.{path_of}
+use Rattle.path.specs.Internal.Lent.{Lent, Filled, model_in, net_in, limits_in}
+use Rattle.path.specs.Internal.Paths.{path_of, Known}
 use Rattle.path.specs.Internal.Counts.{Few, death_more, cut_more, step_more}
-use Rattle.rows.specs.Internal.Table.{marks_in, NamesKept, DeathNoted, CutNoted, TableGathered}
-use Rattle.rows.proofs.RowTotals.{names_then, table_room, table_death, table_cut}
-use Rattle.rows.proofs.RowMarks.{and_true}
+use Rattle.rows.specs.declared.table.RowTable.{RowTable}
+use Rattle.rows.specs.Internal.Table.{cut_total, marks_in, MarksNoted, NamesKept, DeathNoted, CutNoted, TableGathered}
+use Rattle.rows.proofs.RowTotals.{and_true, names_then, table_room, table_death, table_cut, marks_gathered}
 use Rattle.path.specs.Internal.Outcomes.{outcome_of, named_end, judged}
 use Rattle.path.specs.Internal.Exits.{tip_after, ExitOf}
 use Rattle.path.specs.Internal.Deaths.{LastStep, Cached}
-use Rattle.bounds.specs.Internal.Marks.{path_with, upper_asked, asked_marks, Marked}
+use Rattle.bounds.specs.Internal.Marks.{asked_marks}
 use Rattle.bounds.specs.Internal.Walk.{Asked, asked, carried_of, carried_in, totals_of, kept_of, KeptCounted, Ready, Ends, EndsOver, visits_from}
-use Rattle.path.proofs.PathArrays.{below_same, path_longer, known_longer}
+use Rattle.path.proofs.PathSums.{path_longer, known_more}
 use Rattle.path.proofs.VisitNoted.{note_death, note_step, note_cut}
-use Rattle.bounds.proofs.WalkMarks.{marked_gathered}
-use Rattle.bounds.proofs.WalkLoop.{Held, held, AtExit, step_counted, state_small, room, path_short, steps_valid, is_exit, ends_by}
+use Rattle.bounds.proofs.WalkLoop.{Held, held, AtExit, step_counted, state_small, exit_slot, room, path_short, steps_valid, is_exit, ends_by}
 
 module _ (l : Lent) (a : Asked) (h : Held) (x : Exit) where
   -- exit i is there and was read, and the budget has room for a step
   pub record Turn : Type 0 where
+    pub filled : Filled l
     pub ready : Ready l a
     pub kept : AtExit l a h
     pub more : h.i < exit_count l.index a.tip.state
     pub some : h.made.steps ≡ a.task.budget → ⊥
-    pub exit : ExitOf l a.tip h.i x
+    pub exit : ExitOf l a.tip (slot l.index a.tip.state h.i) x
 
   -- the outcome that the path through it is judged to have
   abbrev pub judged_there : Outcome
@@ -71,10 +77,10 @@ module _ (l : Lent) (a : Asked) (h : Held) (x : Exit) where
 
   -- the path up to the tip; with the exit, its lower and its marks
   abbrev pub path_before : Path
-  path_before = path_of (net_in l) a.path a.tip.len
+  path_before = path_of (net_in l) a.path
 
   abbrev pub path_there : Path
-  path_there = path_with (net_in l) a.path a.tip x
+  path_there = transition (net_in l) x.index ∷ path_before
 
   abbrev pub lower_there : Figure
   lower_there = lower (net_in l) path_there
@@ -83,7 +89,7 @@ module _ (l : Lent) (a : Asked) (h : Held) (x : Exit) where
   marks_there = path_marks (net_in l) path_there
 
   -- the path through it was judged and noted
-  pub record Visited (o : Coded) (after : Counts) (cache : Cache) (rows : List ℕ) : Type 0 where
+  pub record Visited (o : Coded) (after : Counts) (cache : Cache) (rows : RowTable) : Type 0 where
     pub turn : Turn
     pub judged_is : outcome_of o ≡ judged_there
     pub kept_is : kept_of after rows ≡ noted (kept_of h.made h.rows) (outcome_of o) x.tip.state lower_there x.tip.upper marks_there
@@ -93,15 +99,27 @@ module _ (l : Lent) (a : Asked) (h : Held) (x : Exit) where
 
 -- ---- what the walk's proof knows once the exit was read, and once it was judged
 
-pub turn_of : {l : Lent} {a : Asked} {h : Held} {x : Exit} → Ready l a → AtExit l a h → h.i < exit_count l.index a.tip.state
-    → (h.made.steps ≡ a.task.budget → ⊥) → ExitOf l a.tip h.i x → Turn l a h x
-turn_of ready kept more some exit = record { ready = ready; kept = kept; more = more; some = some; exit = exit }
+pub turn_of : {l : Lent} {a : Asked} {h : Held} {x : Exit} {leaving : List ℕ} → Filled l → Ready l a → AtExit l a h → h.i < exit_count l.index a.tip.state
+    → (h.made.steps ≡ a.task.budget → ⊥) → leaving ≡ exits_of l.index a.tip.state → ExitOf l a.tip (get_or leaving h.i 0) x → Turn l a h x
+turn_of filled ready kept more some is exit =
+    record { filled = filled; ready = ready; kept = kept; more = more; some = some; exit = rw (exit_slot filled ready more is) at exit }
 
 pub judged_as : {l : Lent} {a : Asked} {h : Held} {x : Exit} {ends : Bool} {n : ℕ} (o : Coded) → Turn l a h x → ends ≡ named_end l.index x.tip.state n
     → n ≡ exit_count l.index x.tip.state
     → outcome_of o ≡ judged ends n (get_or h.entered x.tip.state 0) (a.left - 1) x.tip.upper a.task.level a.task.entry_limit
     → outcome_of o ≡ judged_there l a h x
 judged_as _ _ ends exits is = rw (ends, exits) at is
+
+-- the outcomes that cut a path
+pub record IsCut (o : Coded) : Type 0 where
+  pub alive : is_death (outcome_of o) ≡ false
+  pub ends : is_continued (outcome_of o) ≡ false
+
+pub is_cut : {o : Coded} → (o ≡ GeneratorsState) ⊎ (o ≡ EnteredTooOften) ⊎ (o ≡ StepLimit) ⊎ (o ≡ LowLevel) → IsCut o
+is_cut (inl e) = rw e (record { alive = refl; ends = refl })
+is_cut (inr (inl e)) = rw e (record { alive = refl; ends = refl })
+is_cut (inr (inr (inl e))) = rw e (record { alive = refl; ends = refl })
+is_cut (inr (inr (inr e))) = rw e (record { alive = refl; ends = refl })
 
 -- ---- the exit
 
@@ -113,7 +131,7 @@ module _ {l : Lent} {a : Asked} {h : Held} {x : Exit} (w : Turn l a h x) where
   here = carried_in l a
 
   abbrev valid : Valid (model_in l)
-  valid = w.ready.filled.indexes.valid
+  valid = w.filled.indexes.valid
 
   -- the exit, by its place among the exits of its state
   abbrev exit : Transition
@@ -128,17 +146,17 @@ module _ {l : Lent} {a : Asked} {h : Held} {x : Exit} (w : Turn l a h x) where
   index_below : x.index < length net.table
   index_below =
       rw w.exit.index_is
-      (slot_below (model_in l) l.words l.index valid w.ready.filled.indexes.indexed a.tip.state h.i (state_small w.ready) w.more)
+      (slot_below (model_in l) l.words l.index valid w.filled.indexes.indexed a.tip.state h.i (state_small w.filled w.ready) w.more)
 
   exit_is : transition net x.index ≡ exit
   exit_is =
       ap (λ j. transition net j) w.exit.index_is
-      ∙ slot_exit (model_in l) l.words l.index valid w.ready.filled.indexes.indexed a.tip.state h.i (state_small w.ready) w.more
+      ∙ slot_exit (model_in l) l.words l.index valid w.filled.indexes.indexed a.tip.state h.i (state_small w.filled w.ready) w.more
 
   leaves : (transition net x.index).from ≡ a.tip.state
   leaves =
       ap (λ j. (transition net j).from) w.exit.index_is
-      ∙ slot_leaves (model_in l) l.words l.index valid w.ready.filled.indexes.indexed a.tip.state h.i (state_small w.ready) w.more
+      ∙ slot_leaves (model_in l) l.words l.index valid w.filled.indexes.indexed a.tip.state h.i (state_small w.filled w.ready) w.more
 
   there : ValidTransition (model_in l).states exit
   there = subst (λ t. ValidTransition (model_in l).states t) exit_is (step_valid valid index_below)
@@ -168,22 +186,45 @@ module _ {l : Lent} {a : Asked} {h : Held} {x : Exit} (w : Turn l a h x) where
   unfolding Each
   upper_sized =
       rw (upper_is ∙ carry_upper net exit here to_small w.ready.carries)
-      (any_upper_sized valid (exit ∷ path_before l a h x) (path_short w.ready) (there.manner, steps_valid w.ready))
+      (any_upper_sized valid (exit ∷ path_before l a h x) (path_short w.filled w.ready) (there.manner, steps_valid w.filled w.ready))
 
   pub judge_figures : IsFigure 9 x.tip.upper × IsFigure 9 a.task.level
   judge_figures = (upper_sized.is_figure, rw w.ready.task_is.level_is (prune_sized valid).is_figure)
 
-  pub last_step : LastStep l a.task.time a.path a.tip x
-  last_step = record {
-    filled = w.ready.filled;
-    time_is = w.ready.task_is.time_is;
+  -- the exit is written behind the path, which stays as it was
+  abbrev written : List ℕ
+  written = set h.taken a.tip.len x.index
+
+  long : a.tip.len < length h.taken
+  long = omega (arith, room w.filled w.ready, w.kept.size)
+
+  pub before_is : take a.tip.len written ≡ a.path
+  before_is = take-set h.taken a.tip.len x.index ∙ w.kept.same
+
+  pub whole_is : take (a.tip.len + 1) written ≡ a.path ++ x.index ∷ []
+  whole_is = take_more_set h.taken a.tip.len x.index long ∙ ap (λ p. p ++ x.index ∷ []) w.kept.same
+
+  pub whole_path : path_of net (take (a.tip.len + 1) written) ≡ path_there l a h x
+  whole_path = ap (path_of net) whole_is ∙ path_longer net a.path x.index
+
+  pub whole_known : Known net (take (a.tip.len + 1) written)
+  whole_known = rw whole_is (known_more (omega (arith, w.ready.length_is, room w.filled w.ready)) index_below w.ready.known)
+
+  -- what the walk notes in the marks of the path as it is written, it notes of this path
+  pub mark_there : (low : Option Figure) (u : Figure) {before after rows : RowTable} → rows ≡ after
+      → MarksNoted (asked_marks low net (path_of net (take (a.tip.len + 1) written)) u before) before after
+      → MarksNoted (asked_marks low net (path_there l a h x) u before) before rows
+  mark_there low u {before} {after} e m = rw e (subst (λ p. MarksNoted (asked_marks low net p u before) before after) whole_path m)
+
+  pub last_step : LastStep l (take a.tip.len written) a.tip x
+  last_step = rw before_is (record {
     known = w.ready.known;
-    room = room w.ready;
+    room = omega (arith, w.ready.length_is, room w.filled w.ready);
     ones_are = w.ready.carries.ones;
     index = index_below;
     class_is = w.exit.class_is;
     leaves = sym leaves;
-  }
+  })
 
   some_left : h.made.steps < 1000000
   some_left = omega (arith, w.kept.going.within, w.some, w.ready.task_is.budget_high)
@@ -206,7 +247,7 @@ module _ {l : Lent} {a : Asked} {h : Held} {x : Exit} (w : Turn l a h x) where
   module _ (o : Coded) (is : outcome_of o ≡ judged_there l a h x) {after : Counts} where
     -- as a death, of the lower f
     pub death_noted : is_death (outcome_of o) ≡ true → {f : Figure} → Sized 9 35000 f → f ≡ lower_there l a h x → after ≡ death_more h.made
-        → {mid rows : List ℕ} → Marked (asked_marks true net (path_there l a h x) f x.tip.upper h.rows) h.rows mid
+        → {mid rows : RowTable} → MarksNoted (asked_marks (Some f) net (path_there l a h x) x.tip.upper h.rows) h.rows mid
         → DeathNoted x.tip.state f x.tip.upper mid rows
         → {cache : Cache} → Cached net (path_before l a h x) a.tip.state cache → Visited l a h x o after cache rows
     unfolding with_death marks_with_death
@@ -218,16 +259,16 @@ module _ {l : Lent} {a : Asked} {h : Held} {x : Exit} (w : Turn l a h x) where
       cached = cached;
       counted = rw more (record {
         counts = record { deaths = omega (arith, w.kept.counted.counts.deaths); cuts = omega (arith, w.kept.counted.counts.cuts) };
-        totals = table_death (marked_gathered m w.kept.counted.totals) terms upper_fits low k;
+        totals = table_death (marks_gathered m w.kept.counted.totals) terms upper_fits low k;
       });
       names_kept = names_then m.names_kept k.names_kept;
     }
       where
         same : totals_of after rows ≡ with_death (totals_of h.made h.rows) f x.tip.upper
         same = rw more (λ i. record {
-          lower = (k.lower_is ∙ ap (λ t. total_down t f) (m.totals_same 1002 (omega arith))) i;
-          death_upper = (k.death_is ∙ ap (λ t. total_up t x.tip.upper) (m.totals_same 1004 (omega arith))) i;
-          cut_upper = (k.cut_same ∙ m.totals_same 1006 (omega arith)) i;
+          lower = (k.lower_is ∙ ap (λ t. total_down t f) m.lower_same) i;
+          death_upper = (k.death_is ∙ ap (λ t. total_up t x.tip.upper) m.death_same) i;
+          cut_upper = (k.cut_same ∙ m.cut_same) i;
           deaths = h.made.deaths + 1;
           cuts = h.made.cuts;
           steps = h.made.steps + 1;
@@ -242,38 +283,38 @@ module _ {l : Lent} {a : Asked} {h : Held} {x : Exit} (w : Turn l a h x) where
       kept_is = note_step _ _ _ _ _ _ (ap (λ c. totals_of c h.rows) more) refl refl on;
       cached = w.kept.cached;
       counted = step_counted more w.kept.counted;
-      names_kept = record { size = refl; same = λ i low. refl };
+      names_kept = record { count_same = refl; states_same = refl };
     }
 
     -- as a cut
     pub cut_noted : is_death (outcome_of o) ≡ false → is_continued (outcome_of o) ≡ false → after ≡ cut_more h.made
-        → (f : Figure) {mid rows : List ℕ} → Marked (asked_marks false net (path_there l a h x) f x.tip.upper h.rows) h.rows mid
+        → {mid rows : RowTable} → MarksNoted (asked_marks None net (path_there l a h x) x.tip.upper h.rows) h.rows mid
         → CutNoted x.tip.upper mid rows → Visited l a h x o after h.cache rows
     unfolding with_cut marks_with_cut
-    cut_noted off ended more f {mid} {rows} m k = record {
+    cut_noted off ended more {mid} {rows} m k = record {
       turn = w;
       judged_is = is;
       kept_is = note_cut _ _ _ _ _ _ same (k.rows_same ∙ m.rows_same) (k.marks_same ∙ m.marks_are ∙ kept_lower) off ended;
       cached = w.kept.cached;
       counted = rw more (record {
         counts = record { deaths = omega (arith, w.kept.counted.counts.deaths); cuts = omega (arith, w.kept.counted.counts.cuts) };
-        totals = table_cut (marked_gathered m w.kept.counted.totals) terms upper_fits k;
+        totals = table_cut (marks_gathered m w.kept.counted.totals) terms upper_fits k;
       });
       names_kept = names_then m.names_kept k.names_kept;
     }
       where
         -- the lower does not rest on a cut
         with_lower : Bool → Marks
-        with_lower b = record { lower = b; upper = (marks_in h.rows).upper && upper_asked net (path_there l a h x) x.tip.upper 1006 h.rows }
+        with_lower b = record { lower = b; upper = (marks_in h.rows).upper && (upper_kept net (path_there l a h x) && total_keeps (cut_total h.rows) x.tip.upper) }
 
         kept_lower : with_lower ((marks_in h.rows).lower && true) ≡ with_lower (marks_in h.rows).lower
         kept_lower = ap with_lower (and_true (marks_in h.rows).lower)
 
         same : totals_of after rows ≡ with_cut (totals_of h.made h.rows) x.tip.upper
         same = rw more (λ i. record {
-          lower = (k.lower_same ∙ m.totals_same 1002 (omega arith)) i;
-          death_upper = (k.death_same ∙ m.totals_same 1004 (omega arith)) i;
-          cut_upper = (k.cut_is ∙ ap (λ t. total_up t x.tip.upper) (m.totals_same 1006 (omega arith))) i;
+          lower = (k.lower_same ∙ m.lower_same) i;
+          death_upper = (k.death_same ∙ m.death_same) i;
+          cut_upper = (k.cut_is ∙ ap (λ t. total_up t x.tip.upper) m.cut_same) i;
           deaths = h.made.deaths;
           cuts = h.made.cuts + 1;
           steps = h.made.steps + 1;
@@ -287,16 +328,16 @@ behind_exits true b h = refl
 behind_exits false true h = h refl
 behind_exits false false h = refl
 
-module _ {l : Lent} {a : Asked} {h : Held} {x : Exit} {o : Coded} {after : Counts} {cache : Cache} {rows : List ℕ} (v : Visited l a h x o after cache rows) where
+module _ {l : Lent} {a : Asked} {h : Held} {x : Exit} {o : Coded} {after : Counts} {cache : Cache} {rows : RowTable} (v : Visited l a h x o after cache rows) where
   abbrev w : Turn l a h x
   w = v.turn
 
   abbrev on_exit : h.i < length (exits (net w) a.tip.state)
-  on_exit = is_exit w.ready w.more
+  on_exit = is_exit w.filled w.ready w.more
 
   same_exits : eqb (exit_count l.index x.tip.state) 0 ≡ is_empty (exits (net w) (exit w).to)
   same_exits =
-      ap (λ k. eqb k 0) (w.ready.filled.indexes.indexed.counts_are x.tip.state (there_small w)
+      ap (λ k. eqb k 0) (w.filled.indexes.indexed.counts_are x.tip.state (there_small w)
       ∙ ap (λ s. length (exits (net w) s)) (state_is w))
       ∙ sym (is_empty_length (exits (net w) (exit w).to))
 
@@ -304,9 +345,9 @@ module _ {l : Lent} {a : Asked} {h : Held} {x : Exit} {o : Coded} {after : Count
   same_named : named_end l.index x.tip.state (exit_count l.index x.tip.state) ≡ is_named (net w) (exit w).to
   same_named =
       ap₂ (λ a b. a && b) same_exits
-      (ap (λ k. eqb k 1) (w.ready.filled.indexes.indexed.named_are x.tip.state (there_small w)) ∙ flag_test (is_named (net w) x.tip.state)
+      (ap (λ k. eqb k 1) (w.filled.indexes.indexed.named_are x.tip.state (there_small w)) ∙ flag_test (is_named (net w) x.tip.state)
       ∙ ap (is_named (net w)) (state_is w))
-      ∙ behind_exits (is_empty (exits (net w) (exit w).to)) (is_named (net w) (exit w).to) (w.ready.filled.indexes.valid.named_end (exit w).to)
+      ∙ behind_exits (is_empty (exits (net w) (exit w).to)) (is_named (net w) (exit w).to) (w.filled.indexes.valid.named_end (exit w).to)
 
   same_before : get_or h.entered x.tip.state 0 ≡ get_or a.entered (exit w).to 0
   same_before = ap₂ (λ k s. get_or k s 0) w.kept.set_back (state_is w)
@@ -341,11 +382,11 @@ module _ {l : Lent} {a : Asked} {h : Held} {x : Exit} {o : Coded} {after : Count
           cc
 
   -- the path is ended
-  pub visit_ended : is_continued (outcome_of o) ≡ false → AtExit l a (held (h.i + 1) h.entered h.taken after cache rows)
+  pub visit_ended : is_continued (outcome_of o) ≡ false → AtExit l a (held (h.i + 1) h.entered (written w) after cache rows)
   visit_ended off = record {
     set_back = w.kept.set_back;
-    size = w.kept.size;
-    same = w.kept.same;
+    size = length-set h.taken a.tip.len x.index ∙ w.kept.size;
+    same = before_is w;
     cached = v.cached;
     counted = v.counted;
     names_kept = names_then w.kept.names_kept v.names_kept;
@@ -366,30 +407,40 @@ module _ {l : Lent} {a : Asked} {h : Held} {x : Exit} {o : Coded} {after : Count
     abbrev entered_there : List ℕ
     entered_there = set h.entered x.tip.state (get_or h.entered x.tip.state 0 + 1)
 
-    abbrev taken_there : List ℕ
-    taken_there = set h.taken a.tip.len x.index
-
-    long : a.tip.len < length h.taken
-    long = omega (arith, room w.ready, w.kept.size)
-
     -- what the walk beyond is asked for
     abbrev pub asked_there : Asked
-    asked_there = asked a.task x.tip (a.left - 1) entered_there taken_there after rows
+    asked_there = asked a.task x.tip (a.left - 1) entered_there (take x.tip.len (written w)) after rows
+
+    -- an entry count that the walk beyond left as it was is set back
+    pub entries_back : (entered : List ℕ) → entered ≡ entered_there → set entered x.tip.state (get_or h.entered x.tip.state 0) ≡ a.entered
+    entries_back entered e =
+        ap (λ k. set k x.tip.state (get_or h.entered x.tip.state 0)) e
+        ∙ set-set h.entered x.tip.state (get_or h.entered x.tip.state 0 + 1) (get_or h.entered x.tip.state 0)
+        ∙ set-get_or h.entered x.tip.state 0
+        ∙ w.kept.set_back
+
+    -- the path up to the tip is as it was wherever the path beyond is
+    pub path_back : (taken : List ℕ) → take x.tip.len taken ≡ take x.tip.len (written w) → take a.tip.len taken ≡ a.path
+    path_back taken same = below taken ∙ ap (take a.tip.len) same ∙ sym (below (written w)) ∙ before_is w
+      where
+        below : (p : List ℕ) → take a.tip.len p ≡ take a.tip.len (take x.tip.len p)
+        below p = sym (take-take a.tip.len x.tip.len p (omega (arith, len_is w)))
+
+    there_is : take x.tip.len (written w) ≡ a.path ++ x.index ∷ []
+    there_is = ap (λ n. take n (written w)) (len_is w) ∙ whole_is w
 
     deeper : carried_in l asked_there ≡ next w
     unfolding tip_after carry
     deeper =
-        ap₂ (λ r k. carried_of (net w) taken_there r (set k r.state (get_or k r.state 0 + 1))) (tip_is w) w.kept.set_back
+        ap₂ (λ r k. carried_of (net w) (take x.tip.len (written w)) r (set k r.state (get_or k r.state 0 + 1))) (tip_is w) w.kept.set_back
         ∙ ap (λ p. record { path = p; state = (next w).state; upper = (next w).upper; ones = (next w).ones; entered = (next w).entered })
-        (path_longer h.taken a.path a.tip.len x.index w.kept.same (net w) long
-        ∙ ap (λ t. t ∷ path_before l a h x) (exit_is w))
+        (ap (path_of (net w)) there_is ∙ path_longer (net w) a.path x.index ∙ ap (λ t. t ∷ path_before l a h x) (exit_is w))
 
     pub ready_there : Ready l asked_there
     ready_there = record {
-      filled = w.ready.filled;
       task_is = w.ready.task_is;
-      known = rw (len_is w) (known_longer h.taken a.path a.tip.len x.index w.kept.same (net w) long (room w.ready)
-          (index_below w) w.ready.known);
+      known = rw (len_is w) (whole_known w);
+      length_is = rw there_is (omega (arith, length-append a.path (x.index ∷ []), w.ready.length_is, len_is w));
       carries = subst (λ k. Carries (net w) k) (sym deeper) (carry_carries (net w) (exit w) (here w) (to_small w) w.ready.carries);
       state_low = omega (arith, state_is w, (there w).to_low);
       state_high = omega (arith, state_is w, (there w).to_high);
@@ -404,27 +455,24 @@ module _ {l : Lent} {a : Asked} {h : Held} {x : Exit} {o : Coded} {after : Count
     continues = ap is_continued (sym outcome_is) ∙ on
 
     -- r is what the walk beyond hands back, and rows' the table of rows then
-    module _ {r : Counts} (rows' : List ℕ) (ends : Ends l asked_there r rows') where
+    module _ {r : Counts} (rows' : RowTable) (ends : Ends l asked_there r rows') where
       beyond : EndsOver (net w) a.task.budget (kept_of after rows) (visits_from l (a.left - 1) (next w)) r rows'
       beyond = subst (λ k. EndsOver (net w) a.task.budget (kept_of after rows) (visits_from l (a.left - 1) k) r rows') deeper ends
 
       pub visit_over : a.task.budget < r.steps → Ends l a r rows'
       visit_over past =
-          ends_by w.ready (ltb a.task.budget r.steps) rows' refl
+          ends_by w.filled w.ready (ltb a.task.budget r.steps) rows' refl
           (exit_below_over (net w) (limits_in l) a.task.budget (a.left - 1) (here w) (kept_of a.counts a.rows) h.i (kept_of h.made h.rows) on_exit
           w.kept.going (kept_of after rows) visit_is w.some continues (ltb a.task.budget r.steps) (kept_of r rows') beyond
           (lt-ltb a.task.budget r.steps past))
 
-      -- the entry count is set back
-      pub visit_back : KeptCounted r rows' → NamesKept rows rows' → r.steps ≤ a.task.budget
-          → AtExit l a (held (h.i + 1) (set entered_there x.tip.state (get_or h.entered x.tip.state 0)) taken_there r cache rows')
-      visit_back counted names within = record {
-        set_back =
-            set-set h.entered x.tip.state (get_or h.entered x.tip.state 0 + 1) (get_or h.entered x.tip.state 0)
-            ∙ set-get_or h.entered x.tip.state 0
-            ∙ w.kept.set_back;
-        size = length-set h.taken a.tip.len x.index ∙ w.kept.size;
-        same = below_same h.taken a.path a.tip.len x.index w.kept.same;
+      pub visit_back : (entered taken : List ℕ) → entered ≡ entered_there → take x.tip.len taken ≡ take x.tip.len (written w) → length taken ≡ 24
+          → KeptCounted r rows' → NamesKept rows rows' → r.steps ≤ a.task.budget
+          → AtExit l a (held (h.i + 1) (set entered x.tip.state (get_or h.entered x.tip.state 0)) taken r cache rows')
+      visit_back entered taken entries path size counted names within = record {
+        set_back = entries_back entered entries;
+        size = size;
+        same = path_back taken path;
         cached = v.cached;
         counted = counted;
         names_kept = names_then (names_then w.kept.names_kept v.names_kept) names;

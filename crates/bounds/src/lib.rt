@@ -4,7 +4,7 @@
 ghost use Rattle.std.specs.Prelude.{◌≡◌, ◌≤◌};
 ghost use Rattle.model.specs.Promise.{summary};
 ghost use Rattle.tree.specs.Internal.Tally as running;
-ghost use Rattle.tables.specs.Internal.Described.{Indexes, described};
+ghost use Rattle.tables.specs.Internal.Described.{described};
 ghost use Rattle.rows.specs.Internal.Table.{NoTotals, TableGathered};
 ghost use Rattle.bounds.specs.Internal.Walk.{WalkedTree, kept_of, totals_of};
 ghost use Rattle.bounds.specs.Internal.Measured.{Measured};
@@ -12,17 +12,18 @@ ghost use Rattle.bounds.specs.Answers.{Promised, marks_of, report_of};
 ghost use Rattle.bounds.specs.Rows.{PromisedRows};
 
 use crate::walk::{Task, walk};
-use figure::Figure;
+use figure::{Arithmetic, Direction, Figure, Rounded};
 use model::index::Index;
-use model::{Accepted, Reading, read};
-use path::counts::{Counts, nothing};
+use model::{Accepted, read};
+use path::counts::Counts;
 use path::exits::Tip;
+use path::prepared::Prepared;
 use rows::fill_rows;
-use rows::names::{clear, name_rows};
-use rows::table::{RowTable, is_kept, total_at};
+use rows::names::name_rows;
+use rows::table::RowTable;
 use tables::figures::figure_of;
 use tables::fill;
-use tables::pack::both;
+use tables::indexed::Indexed;
 use tables::table::Table;
 use tree::Row;
 use word::Refusal;
@@ -32,7 +33,7 @@ mod walk;
 
 // The lower and the upper figure, the cut paths' part of the upper, the counts of death paths, cut paths and steps, and whether no operation that the
 // lower or the upper figure rests on lost anything: then it equals its exact sum.
-#[derive(Clone, Copy)]
+#[derive(Clone, Copy, PartialEq, Eq)]
 pub struct Report {
     pub lower: Figure,
     pub upper: Figure,
@@ -45,41 +46,41 @@ pub struct Report {
 }
 
 // The counts of the walk over the tree of an accepted model, or counts whose steps are above the budget; all totals are kept in `rows`.
-fn walked(words: &[u32], index: &Index, a: Accepted, budget: u64, rows: &mut RowTable) -> Counts
-    requires indexes { Indexes words.now index.now × (a ≡ summary (described words.now)) × (budget ≤ 1000000) }
+fn walked(model: Indexed, a: Accepted, budget: u64, rows: &mut RowTable) -> Counts
+    requires accepted { (a ≡ summary (described model.words.now)) × (budget ≤ 1000000) }
     requires no_totals { NoTotals rows.old }
-    ensures { WalkedTree words.now budget result rows.old rows.new }
+    ensures { WalkedTree model.entry.words.now budget result rows.old rows.new }
 {
-    let mut table: Table = [0; 16004];
-    fill(words, index, a, &mut table);
-    let t = a.time;
-    let p = a.prune;
-    let start = a.start;
-    let mut entered = [0u8; 1001];
-    entered[start] = 1;
-    let path = [0u16; 24];
+    let mut table = Table::empty();
+    fill(model, a, &mut table);
+    let prepared = Prepared {
+        words: model.words,
+        index: model.index,
+        table: &table,
+        time: figure_of(a.time),
+    };
     let task = Task {
-        time: figure_of(t),
-        level: figure_of(p),
+        level: figure_of(a.prune),
         entry_limit: a.entry_limit,
         budget,
     };
     let tip = Tip {
-        state: start,
+        state: a.start,
         upper: Figure::of_whole(1),
         ones: 0,
         len: 0,
     };
+    let mut entered = [0; 1001];
+    entered[a.start] = 1;
+    let mut path = [0; 24];
     walk(
-        words,
-        index,
-        &table,
+        &prepared,
         task,
         tip,
         a.step_limit,
-        entered,
-        path,
-        nothing(),
+        &mut entered,
+        &mut path,
+        Counts::default(),
         rows,
     )
 }
@@ -89,25 +90,19 @@ fn reported(c: Counts, rows: &RowTable) -> Report
     requires { TableGathered 1000000 rows.now }
     ensures { (report_of result ≡ running.finish (totals_of c rows.now)) × (marks_of result ≡ running.finish_marks (kept_of c rows.now)) }
 {
-    let lowers = total_at(rows, 1002);
-    let died = total_at(rows, 1004);
-    let cut_off = total_at(rows, 1006);
-    let low = lowers.to_nine_down_telling();
-    let high = died.sum_to_nine_up_telling(cut_off);
-    let lower = low.figure;
-    let upper = high.figure;
-    let cut = cut_off.to_nine_up();
-    let lower_exact = both(is_kept(rows, 1008), low.kept);
-    let upper_exact = both(is_kept(rows, 1009), high.kept);
+    let lowers = Rounded::marked(rows.deaths.lower, rows.lower_kept);
+    let uppers = Rounded::marked(rows.deaths.upper, rows.upper_kept);
+    let lower = lowers.to_nine(Direction::Down);
+    let upper = uppers.sum_to_nine(Rounded::exact(rows.cuts), Direction::Up);
     Report {
-        lower,
-        upper,
-        cut,
+        lower: lower.figure,
+        upper: upper.figure,
+        cut: rows.cuts.to_nine(Direction::Up),
         deaths: c.deaths,
         cuts: c.cuts,
         steps: c.steps,
-        lower_exact,
-        upper_exact,
+        lower_exact: lower.kept,
+        upper_exact: upper.kept,
     }
 }
 
@@ -116,25 +111,25 @@ fn reported(c: Counts, rows: &RowTable) -> Report
 fn measured(words: &[u32], budget: u64, lent: usize, rows: &mut RowTable) -> Result<Report, Refusal>
     ensures { Measured words.now words.now budget lent rows.new result }
 {
-    clear(rows);
-    let mut index: Index = [0; 22018];
-    let r = read(words, budget, &mut index);
-    match r {
-        Reading::Refused(f) => Err(f),
-        Reading::Accepted(a) => {
-            let needed = name_rows(words, &index, a, rows);
-            if lent < needed {
-                clear(rows);
-                return Err(Refusal::TooFewRows(needed));
-            }
-            let c = walked(words, &index, a, budget, rows);
-            if budget < c.steps {
-                name_rows(words, &index, a, rows);
-                return Err(Refusal::OverBudget);
-            }
-            Ok(reported(c, rows))
-        }
+    *rows = RowTable::empty();
+    let mut index = Index::empty();
+    let a = read(words, budget, &mut index)?;
+    let model = Indexed {
+        words,
+        index: &index,
+    };
+    name_rows(model, a, rows);
+    let needed = rows.count;
+    if lent < needed {
+        *rows = RowTable::empty();
+        return Err(Refusal::TooFewRows(needed));
     }
+    let c = walked(model, a, budget, rows);
+    if budget < c.steps {
+        name_rows(model, a, rows);
+        return Err(Refusal::OverBudget);
+    }
+    Ok(reported(c, rows))
 }
 
 // The report on the model that the words describe, White's lower and upper bounds summed over the paths of its cut tree and rounded outward; or a
@@ -142,7 +137,7 @@ fn measured(words: &[u32], budget: u64, lent: usize, rows: &mut RowTable) -> Res
 pub fn unreliability(words: &[u32], budget: u64) -> Result<Report, Refusal>
     ensures { Promised words.now words.now budget result }
 {
-    let mut rows: RowTable = [0; 5014];
+    let mut rows = RowTable::empty();
     measured(words, budget, 1000, &mut rows)
 }
 
@@ -155,9 +150,8 @@ pub fn unreliability_by_state(
 ) -> Result<Report, Refusal>
     ensures { PromisedRows words.now words.now budget rows.old rows.new result }
 {
-    let mut table: RowTable = [0; 5014];
-    let lent = rows.len();
-    let answer = measured(words, budget, lent, &mut table);
+    let mut table = RowTable::empty();
+    let answer = measured(words, budget, rows.len(), &mut table);
     fill_rows(rows, &table);
     answer
 }

@@ -1,7 +1,7 @@
 -- What the walk is asked for and hands back. Assumes nothing: these are definitions.
 use Rattle.std.specs.Prelude.{ℕ, ◌+◌, ◌≤◌, ◌<◌, ◌≡◌, List, length, ltb}
 use Rattle.word.specs.Model.{Net, Model}
-use Rattle.tree.specs.States.{mission_time, figure_of}
+use Rattle.tree.specs.States.{figure_of}
 use Rattle.tree.specs.Tree.{Visit, visits, tree}
 use Rattle.tree.specs.Internal.Tally.{Totals, Kept, nothing_kept}
 use Rattle.tree.specs.Internal.Carried.{Carried, Carries, carried_visits}
@@ -10,9 +10,10 @@ use Rattle.tables.specs.Internal.Described.{described, net_of}
 use Rattle.bounds.specs.declared.walk.Task.{Task}
 use Rattle.path.specs.declared.exits.Tip.{Tip}
 use Rattle.path.specs.declared.counts.Counts.{Counts}
-use Rattle.path.specs.Internal.Lent.{Lent, Filled, model_in, net_in, limits_in}
+use Rattle.path.specs.Internal.Lent.{Lent, model_in, net_in, limits_in}
 use Rattle.path.specs.Internal.Paths.{path_of, Known}
 use Rattle.path.specs.Internal.Counts.{Few}
+use Rattle.rows.specs.declared.table.RowTable.{RowTable}
 use Rattle.rows.specs.Internal.Table.{lower_total, death_total, cut_total, marks_in, totals_in, NamesKept, TableGathered}
 
 -- What a walk is asked for: to go on from the tip, with so many steps left, the entry counts and the path up to the tip, the counts so far, and the
@@ -24,15 +25,14 @@ pub record Asked : Type 0 where
   pub entered : List ℕ
   pub path : List ℕ
   pub counts : Counts
-  pub rows : List ℕ
+  pub rows : RowTable
 
-abbrev pub asked : Task → Tip → ℕ → List ℕ → List ℕ → Counts → List ℕ → Asked
+abbrev pub asked : Task → Tip → ℕ → List ℕ → List ℕ → Counts → RowTable → Asked
 asked task tip left entered path counts rows =
     record { task = task; tip = tip; left = left; entered = entered; path = path; counts = counts; rows = rows }
 
 -- a task is that of a model, with an allowed budget
 pub record TaskOf (m : Model) (t : Task) : Type 0 where
-  pub time_is : t.time ≡ mission_time m.net
   pub level_is : t.level ≡ figure_of m.limits.prune
   pub entry_limit_is : t.entry_limit ≡ m.limits.entry_limit
   pub budget_high : t.budget ≤ 1000000
@@ -40,13 +40,13 @@ pub record TaskOf (m : Model) (t : Task) : Type 0 where
 -- what a walk carries
 abbrev pub carried_of : Net → List ℕ → Tip → List ℕ → Carried
 carried_of net path tip entered =
-    record { path = path_of net path tip.len; state = tip.state; upper = tip.upper; ones = tip.ones; entered = entered }
+    record { path = path_of net path; state = tip.state; upper = tip.upper; ones = tip.ones; entered = entered }
 
 abbrev pub carried_in : Lent → Asked → Carried
 carried_in l a = carried_of (net_in l) a.path a.tip a.entered
 
 -- the definitions' running totals: the counts, and the totals in the table
-abbrev pub totals_of : Counts → List ℕ → Totals
+abbrev pub totals_of : Counts → RowTable → Totals
 totals_of c rows =
     record {
       lower = lower_total rows;
@@ -58,19 +58,19 @@ totals_of c rows =
     }
 
 -- all that a walk keeps: these, and in the table those of rows and the marks
-abbrev pub kept_of : Counts → List ℕ → Kept
+abbrev pub kept_of : Counts → RowTable → Kept
 kept_of c rows = record { totals = totals_of c rows; rows = totals_in rows; marks = marks_in rows }
 
 -- all of it is in range: as many terms as steps were taken
-pub record KeptCounted (c : Counts) (rows : List ℕ) : Type 0 where
+pub record KeptCounted (c : Counts) (rows : RowTable) : Type 0 where
   pub counts : Few c
   pub totals : TableGathered c.steps rows
 
--- A walk may begin: the index and the table are filled, the task is the model's, and the tip, the entry counts and the path agree.
+-- A walk may begin: the task is the model's, and the tip, the entry counts and the path agree.
 pub record Ready (l : Lent) (a : Asked) : Type 0 where
-  pub filled : Filled l
   pub task_is : TaskOf (model_in l) a.task
-  pub known : Known (net_in l) a.path a.tip.len
+  pub known : Known (net_in l) a.path
+  pub length_is : length a.path ≡ a.tip.len
   pub carries : Carries (net_in l) (carried_in l a)
   pub state_low : 1 ≤ a.tip.state
   pub state_high : a.tip.state ≤ (model_in l).states
@@ -81,7 +81,7 @@ pub record Ready (l : Lent) (a : Asked) : Type 0 where
 
 -- What a walk over some visits hands back, from what is kept, w, on: where the budget has room for all of them, their totals; else counts whose steps
 -- are above the budget. The steps tell which.
-abbrev pub EndsOver : Net → ℕ → Kept → List Visit → Counts → List ℕ → Type 0
+abbrev pub EndsOver : Net → ℕ → Kept → List Visit → Counts → RowTable → Type 0
 EndsOver net budget w vs r rows = Walked net budget w vs (ltb budget r.steps) (kept_of r rows)
 
 -- the visits beyond what is carried, with n steps left
@@ -89,15 +89,15 @@ abbrev pub visits_from : Lent → ℕ → Carried → List Visit
 visits_from l n c = carried_visits (net_in l) (limits_in l) n c
 
 -- the walk that is asked for ends so
-abbrev pub Ends : Lent → Asked → Counts → List ℕ → Type 0
+abbrev pub Ends : Lent → Asked → Counts → RowTable → Type 0
 Ends l a r rows = EndsOver (net_in l) a.task.budget (kept_of a.counts a.rows) (visits_from l a.left (carried_in l a)) r rows
 
 -- the cut tree's own visits beyond the path up to the tip
 abbrev pub visits_beyond : Lent → Asked → List Visit
-visits_beyond l a = visits (net_in l) (limits_in l) a.left (path_of (net_in l) a.path a.tip.len)
+visits_beyond l a = visits (net_in l) (limits_in l) a.left (path_of (net_in l) a.path)
 
 -- what `walk` hands back, and the table of rows after it
-pub record WalkedBeyond (l : Lent) (a : Asked) (r : Counts) (rows : List ℕ) : Type 0 where
+pub record WalkedBeyond (l : Lent) (a : Asked) (r : Counts) (rows : RowTable) : Type 0 where
   pub ends : Ends l a r rows
   pub counted : KeptCounted r rows
   pub names_kept : NamesKept a.rows rows
@@ -105,7 +105,7 @@ pub record WalkedBeyond (l : Lent) (a : Asked) (r : Counts) (rows : List ℕ) : 
   pub steps_are : r.steps ≤ a.task.budget → r.steps ≡ a.counts.steps + length (visits_beyond l a)
 
 -- what the walk from the start hands back, of the table of rows before and after
-pub record WalkedTree (ws : List ℕ) (budget : ℕ) (r : Counts) (before after : List ℕ) : Type 0 where
+pub record WalkedTree (ws : List ℕ) (budget : ℕ) (r : Counts) (before after : RowTable) : Type 0 where
   pub ends : EndsOver (net_of ws) budget nothing_kept (tree (net_of ws) (described ws).limits) r after
   pub counted : KeptCounted r after
   pub names_kept : NamesKept before after
