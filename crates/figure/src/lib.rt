@@ -8,8 +8,6 @@ ghost use Rattle.std.specs.Int.Signed.{mag};
 ghost use Rattle.figure.specs.Rounding.{none, IsFigure};
 ghost use Rattle.figure.specs.Operands.{Operand};
 ghost use Rattle.figure.specs.Operations as ops;
-ghost use Rattle.figure.specs.Losses as losses;
-ghost use Rattle.figure.specs.Losses.{told};
 ghost use Rattle.figure.specs.Tested.{figure_test};
 ghost use Rattle.figure.specs.Internal.Ceiling.{Ceiling};
 ghost use Rattle.figure.specs.Internal.Directions as directions;
@@ -89,25 +87,12 @@ impl Figure {
         whole::fitted(Direction::Down, n, 0)
     }
 
-    pub fn of_whole_telling(n: u64) -> Rounded
-        ensures { result ≡ told (ops.of_whole n) (losses.whole_keeps n) }
-    {
-        Rounded::of_whole(n)
-    }
-
     // The quantity c / 10^p of a word table, exactly.
     pub fn of_quantity(c: u32, p: u32) -> Figure
         requires { p ≤ 255 }
         ensures { result ≡ ops.of_quantity c p }
     {
         whole::fitted(Direction::Up, u64::from(c), -(p as i32))
-    }
-
-    pub fn of_quantity_telling(c: u32, p: u32) -> Rounded
-        requires { p ≤ 255 }
-        ensures { result ≡ told (ops.of_quantity c p) (losses.quantity_keeps c p) }
-    {
-        Rounded::of_quantity(c, p)
     }
 
     // The product, rounded as `to` says.
@@ -164,118 +149,6 @@ impl Figure {
         total::sum_to_nine(to, self, other)
     }
 
-    pub fn times_up(self, other: Figure) -> Figure
-        requires { Operand 9 self × Operand 9 other }
-        ensures { result ≡ ops.times_up self other }
-    {
-        self.times(other, Direction::Up)
-    }
-
-    pub fn times_up_telling(self, other: Figure) -> Rounded
-        requires { Operand 9 self × Operand 9 other }
-        ensures { result ≡ told (ops.times_up self other) (losses.times_keeps self other) }
-    {
-        Rounded::exact(self).times(Rounded::exact(other), Direction::Up)
-    }
-
-    pub fn times_down(self, other: Figure) -> Figure
-        requires { Operand 9 self × Operand 9 other }
-        ensures { result ≡ ops.times_down self other }
-    {
-        self.times(other, Direction::Down)
-    }
-
-    pub fn times_down_telling(self, other: Figure) -> Rounded
-        requires { Operand 9 self × Operand 9 other }
-        ensures { result ≡ told (ops.times_down self other) (losses.times_keeps self other) }
-    {
-        Rounded::exact(self).times(Rounded::exact(other), Direction::Down)
-    }
-
-    pub fn plus_up(self, other: Figure) -> Figure
-        requires { Operand 9 self × Operand 9 other }
-        ensures { result ≡ ops.plus_up self other }
-    {
-        self.plus(other, Direction::Up)
-    }
-
-    pub fn plus_up_telling(self, other: Figure) -> Rounded
-        requires { Operand 9 self × Operand 9 other }
-        ensures { result ≡ told (ops.plus_up self other) (losses.plus_keeps self other) }
-    {
-        Rounded::exact(self).plus(Rounded::exact(other), Direction::Up)
-    }
-
-    pub fn plus_down(self, other: Figure) -> Figure
-        requires { Operand 9 self × Operand 9 other }
-        ensures { result ≡ ops.plus_down self other }
-    {
-        self.plus(other, Direction::Down)
-    }
-
-    pub fn plus_down_telling(self, other: Figure) -> Rounded
-        requires { Operand 9 self × Operand 9 other }
-        ensures { result ≡ told (ops.plus_down self other) (losses.plus_keeps self other) }
-    {
-        Rounded::exact(self).plus(Rounded::exact(other), Direction::Down)
-    }
-
-    pub fn minus_up(self, other: Figure) -> Figure
-        requires { Operand 9 self × Operand 9 other }
-        ensures { result ≡ ops.minus_up self other }
-    {
-        self.minus(other, Direction::Up)
-    }
-
-    pub fn minus_up_telling(self, other: Figure) -> Rounded
-        requires { Operand 9 self × Operand 9 other }
-        ensures { result ≡ told (ops.minus_up self other) (losses.minus_keeps self other) }
-    {
-        Rounded::exact(self).minus(Rounded::exact(other), Direction::Up)
-    }
-
-    pub fn minus_down(self, other: Figure) -> Figure
-        requires { Operand 9 self × Operand 9 other }
-        ensures { result ≡ ops.minus_down self other }
-    {
-        self.minus(other, Direction::Down)
-    }
-
-    pub fn minus_down_telling(self, other: Figure) -> Rounded
-        requires { Operand 9 self × Operand 9 other }
-        ensures { result ≡ told (ops.minus_down self other) (losses.minus_keeps self other) }
-    {
-        Rounded::exact(self).minus(Rounded::exact(other), Direction::Down)
-    }
-
-    pub fn divided_up(self, other: Figure) -> Figure
-        requires { Operand 9 self × Operand 9 other × (0 < other.digits) }
-        ensures { result ≡ ops.divided_up self other }
-    {
-        self.divided(other, Direction::Up)
-    }
-
-    pub fn divided_up_telling(self, other: Figure) -> Rounded
-        requires { Operand 9 self × Operand 9 other × (0 < other.digits) }
-        ensures { result ≡ told (ops.divided_up self other) (losses.divided_keeps self other) }
-    {
-        Rounded::exact(self).divided(Rounded::exact(other), Direction::Up)
-    }
-
-    pub fn divided_down(self, other: Figure) -> Figure
-        requires { Operand 9 self × Operand 9 other × (0 < other.digits) }
-        ensures { result ≡ ops.divided_down self other }
-    {
-        self.divided(other, Direction::Down)
-    }
-
-    pub fn divided_down_telling(self, other: Figure) -> Rounded
-        requires { Operand 9 self × Operand 9 other × (0 < other.digits) }
-        ensures { result ≡ told (ops.divided_down self other) (losses.divided_keeps self other) }
-    {
-        Rounded::exact(self).divided(Rounded::exact(other), Direction::Down)
-    }
-
     // Times ten to the power p, exactly.
     pub fn times_ten(self, p: i32) -> Figure
         requires { Operand 9 self × (mag p ≤ 100000) }
@@ -310,78 +183,5 @@ impl Figure {
             return false;
         }
         (self.power, self.digits) <= (other.power, other.digits)
-    }
-
-    // A total of eighteen digits, with a figure of nine added.
-    pub fn total_up(self, a: Figure) -> Figure
-        requires { Operand 18 self × Operand 9 a }
-        ensures { result ≡ ops.total_up self a }
-    {
-        self.total(a, Direction::Up)
-    }
-
-    pub fn total_up_telling(self, a: Figure) -> Rounded
-        requires { Operand 18 self × Operand 9 a }
-        ensures { result ≡ told (ops.total_up self a) (losses.total_keeps self a) }
-    {
-        Rounded::exact(self).total(Rounded::exact(a), Direction::Up)
-    }
-
-    pub fn total_down(self, a: Figure) -> Figure
-        requires { Operand 18 self × Operand 9 a }
-        ensures { result ≡ ops.total_down self a }
-    {
-        self.total(a, Direction::Down)
-    }
-
-    pub fn total_down_telling(self, a: Figure) -> Rounded
-        requires { Operand 18 self × Operand 9 a }
-        ensures { result ≡ told (ops.total_down self a) (losses.total_keeps self a) }
-    {
-        Rounded::exact(self).total(Rounded::exact(a), Direction::Down)
-    }
-
-    // A total, to nine digits.
-    pub fn to_nine_up(self) -> Figure
-        requires { Operand 18 self }
-        ensures { result ≡ ops.to_nine_up self }
-    {
-        self.to_nine(Direction::Up)
-    }
-
-    pub fn to_nine_up_telling(self) -> Rounded
-        requires { Operand 18 self }
-        ensures { result ≡ told (ops.to_nine_up self) (losses.to_nine_keeps self) }
-    {
-        Rounded::exact(self).to_nine(Direction::Up)
-    }
-
-    pub fn to_nine_down(self) -> Figure
-        requires { Operand 18 self }
-        ensures { result ≡ ops.to_nine_down self }
-    {
-        self.to_nine(Direction::Down)
-    }
-
-    pub fn to_nine_down_telling(self) -> Rounded
-        requires { Operand 18 self }
-        ensures { result ≡ told (ops.to_nine_down self) (losses.to_nine_keeps self) }
-    {
-        Rounded::exact(self).to_nine(Direction::Down)
-    }
-
-    // The sum of two totals, to nine digits.
-    pub fn sum_to_nine_up(self, other: Figure) -> Figure
-        requires { Operand 18 self × Operand 18 other }
-        ensures { result ≡ ops.sum_to_nine_up self other }
-    {
-        self.sum_to_nine(other, Direction::Up)
-    }
-
-    pub fn sum_to_nine_up_telling(self, other: Figure) -> Rounded
-        requires { Operand 18 self × Operand 18 other }
-        ensures { result ≡ told (ops.sum_to_nine_up self other) (losses.sum_to_nine_keeps self other) }
-    {
-        Rounded::exact(self).sum_to_nine(Rounded::exact(other), Direction::Up)
     }
 }
