@@ -81,7 +81,8 @@ moment_told net s = told (moment_sum net s) (moment_sum_kept net s)
 
 -- steps that differ only in how their marks are counted
 same_marks : {s : Rounded} {n : ℕ} {a b : Bool} {f : Figure} {k l : Bool} → a ≡ b → k ≡ l
-    → ◌≡◌ {A = Step} (record { share = s; grains = n; grains_kept = a; factor = told f k }) (record { share = s; grains = n; grains_kept = b; factor = told f l })
+    → ◌≡◌ {A = Step} (record { share = s; grains = n; grains_kept = a; factor = told f k })
+    (record { share = s; grains = n; grains_kept = b; factor = told f l })
 same_marks ea ek = rw (ea, ek)
 
 module _ (net : Net) (t : Transition) where

@@ -46,7 +46,9 @@ more_length : (t : Transition) (ts : List Transition) (s : ℕ) → length (exit
 unfolding exits_in only
 more_length t ts s = go (eqb t.from s)
   where
-    go : (b : Bool) → length {A = Transition} (elim b as (λ _. List Transition) [ true ↦ t ∷ only (leaves s) ts | false ↦ only (leaves s) ts ]) ≡ one_if b + length (only (leaves s) ts)
+    go : (b : Bool)
+        → length {A = Transition} (elim b as (λ _. List Transition) [ true ↦ t ∷ only (leaves s) ts | false ↦ only (leaves s) ts ])
+        ≡ one_if b + length (only (leaves s) ts)
     go true = omega arith
     go false = omega arith
 

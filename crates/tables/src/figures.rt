@@ -1,5 +1,5 @@
 // The figures of the quantities that stand in the words.
-ghost use Rattle.std.specs.Prelude.{◌≡◌, true, ◌<◌, ◌≤◌, get_or};
+ghost use Rattle.std.specs.Prelude.{◌≡◌, ◌<◌, ◌≤◌, get_or};
 ghost use Rattle.figure.specs.Operations.{of_whole};
 ghost use Rattle.word.specs.Words.{coefficient_field, quantity};
 ghost use Rattle.tree.specs.States as states;
@@ -9,6 +9,7 @@ use figure::{Arithmetic, Figure, Rounded};
 use word::Quantity;
 use word::fields::quantity_at;
 
+// kept: a function and no `From`, since neither of the two types is of this crate.
 pub fn figure_of(q: Quantity) -> Figure
     requires { q.scale ≤ 255 }
     ensures { result ≡ states.figure_of q }

@@ -22,6 +22,7 @@ pub struct StepEntry {
     pub grains: Packed,
 }
 
+// One entry for each state and one for each transition.
 #[derive(Drop)]
 pub struct Table {
     pub states: [StateEntry; 1001],

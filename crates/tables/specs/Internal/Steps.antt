@@ -1,5 +1,5 @@
--- The share, the grains and the lower factor of a step, with their marks, of its state's sums and the mission time as figures. Laws say that of a net's own sums they
--- are the net's. No public contract cites this page. Assumes nothing: these are definitions.
+-- The share, the grains and the lower factor of a step, with their marks, of its state's sums and the mission time as figures. Laws say that of a net's own
+-- sums they are the net's. No public contract cites this page. Assumes nothing: these are definitions.
 use Rattle.std.specs.Prelude.{ℕ, ◌^◌, ◌≤◌, ◌≡◌, List, [], pos}
 use Rattle.figure.specs.declared.Direction.TheVariants.{Down, Up}
 use Rattle.figure.specs.declared.Rounded.{Rounded}

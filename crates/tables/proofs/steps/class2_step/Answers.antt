@@ -7,49 +7,53 @@ use Rattle.tables.proofs.StepRanges.{moment_sized, time2_sized, time2_above, quo
 use Rattle.tables.proofs.steps.class2_step.Goals as goal
 
 pub class2_quotient-quotient-requires : goal.class2_quotient-quotient-requires
-class2_quotient-quotient-requires c = (
-  sized-≤ (lit≤ tt) (moment_sized c.requires.0 c.second_moment-moment.ensures),
-  sized-≤ (lit≤ tt) (time2_sized c.args.time c.times-time2.result c.times-time2.ensures c.requires.2),
-  time2_above c.args.time c.times-time2.result c.times-time2.ensures c.requires.3,
-)
+class2_quotient-quotient-requires c =
+    let time2 = c.times-time2.result in
+    let m = moment_sized c.requires.0 c.second_moment-moment.ensures in
+    let t = time2_sized c.args.time time2 c.times-time2.ensures c.requires.2 in
+    let above = time2_above c.args.time time2 c.times-time2.ensures c.requires.3 in
+    (sized-≤ (lit≤ tt) m, sized-≤ (lit≤ tt) t, above)
 
 pub times_ten-requires : goal.times_ten-requires
 times_ten-requires c =
+    let time2 = c.times-time2.result in
     let m = moment_sized c.requires.0 c.second_moment-moment.ensures in
-    let t = time2_sized c.args.time c.times-time2.result c.times-time2.ensures c.requires.2 in
-    (sized-≤ (lit≤ tt) (quotient2_sized c.second_moment-moment.result c.times-time2.result m t (time2_above c.args.time c.times-time2.result c.times-time2.ensures c.requires.3) c.class2_quotient-quotient.ensures), lit≤ tt)
+    let t = time2_sized c.args.time time2 c.times-time2.ensures c.requires.2 in
+    let above = time2_above c.args.time time2 c.times-time2.ensures c.requires.3 in
+    (sized-≤ (lit≤ tt) (quotient2_sized c.second_moment-moment.result time2 m t above c.class2_quotient-quotient.ensures), lit≤ tt)
 
 pub least-n-requires : goal.least-n-requires
 least-n-requires c =
+    let time2 = c.times-time2.result in
     let m = moment_sized c.requires.0 c.second_moment-moment.ensures in
-    let t = time2_sized c.args.time c.times-time2.result c.times-time2.ensures c.requires.2 in
-    (grains2_sized c.second_moment-moment.result c.times-time2.result m t (time2_above c.args.time c.times-time2.result c.times-time2.ensures c.requires.3) c.class2_quotient-quotient.ensures c.times_ten.ensures).is_figure
+    let t = time2_sized c.args.time time2 c.times-time2.ensures c.requires.2 in
+    let above = time2_above c.args.time time2 c.times-time2.ensures c.requires.3 in
+    (grains2_sized c.second_moment-moment.result time2 m t above c.class2_quotient-quotient.ensures c.times_ten.ensures).is_figure
 
 pub class2_loss-y-requires : goal.class2_loss-y-requires
 class2_loss-y-requires c =
+    let time2 = c.times-time2.result in
+    let m = moment_sized c.requires.0 c.second_moment-moment.ensures in
+    let t = time2_sized c.args.time time2 c.times-time2.ensures c.requires.2 in
+    let above = time2_above c.args.time time2 c.times-time2.ensures c.requires.3 in
     record {
-      sized = (
-        sized-≤ (lit≤ tt) c.requires.1,
-        sized-≤ (lit≤ tt) c.requires.0.mean,
-        sized-≤ (lit≤ tt) (moment_sized c.requires.0 c.second_moment-moment.ensures),
-        sized-≤ (lit≤ tt) (time2_sized c.args.time c.times-time2.result c.times-time2.ensures c.requires.2),
-      );
-      digits_nonzero = (
-        time2_above c.args.time c.times-time2.result c.times-time2.ensures c.requires.3,
-        grains_positive 3 c.times_ten.result c.least-n.ensures.value,
-        c.least-n.ensures.upper_bound,
-      );
+      sized = (sized-≤ (lit≤ tt) c.requires.1, sized-≤ (lit≤ tt) c.requires.0.mean, sized-≤ (lit≤ tt) m, sized-≤ (lit≤ tt) t);
+      digits_nonzero = (above, grains_positive 3 c.times_ten.result c.least-n.ensures.value, c.least-n.ensures.upper_bound);
     }
 
 pub factor_of-requires : goal.factor_of-requires
 factor_of-requires c =
+    let time2 = c.times-time2.result in
     let m = moment_sized c.requires.0 c.second_moment-moment.ensures in
-    let t = time2_sized c.args.time c.times-time2.result c.times-time2.ensures c.requires.2 in
-    let low = grains_positive 3 c.times_ten.result c.least-n.ensures.value in (
+    let t = time2_sized c.args.time time2 c.times-time2.ensures c.requires.2 in
+    let above = time2_above c.args.time time2 c.times-time2.ensures c.requires.3 in
+    let low = grains_positive 3 c.times_ten.result c.least-n.ensures.value in
+    let loss =
+    loss2_in_range c.second_moment-moment.result time2 m t above c.args.rate c.args.exit.mean c.class2_loss-y.ensures c.requires.1 c.requires.0.mean low
+    c.least-n.ensures.upper_bound in (
       sized-≤ (lit≤ tt) c.requires.0.probability,
       rw c.whole.ensures (sized-≤ (lit≤ tt) (count_sized 1 (lit≤ tt))),
-      sized-≤ (lit≤ tt) (loss2_in_range c.second_moment-moment.result c.times-time2.result m t (time2_above c.args.time c.times-time2.result c.times-time2.ensures c.requires.3) c.args.rate c.args.exit.mean c.class2_loss-y.ensures c.requires.1 c.requires.0.mean low
-          c.least-n.ensures.upper_bound),
+      sized-≤ (lit≤ tt) loss,
     )
 
 pub returns : goal.returns

@@ -39,7 +39,8 @@ pub plus-requires : goal.plus-requires
 plus-requires c =
     let o = over_grains c.requires.sized.1 c.requires.sized.2 c.requires.digits_nonzero c.whole-2.ensures in (
       rw (c.divided-half.ensures, c.times.ensures, c.whole.ensures)
-          (sized-≤ (lit≤ tt) (divided_up_sized (times_up_sized c.requires.sized.0 c.requires.sized.1) (count_sized 2 (lit≤ tt)) (of_whole_above 2 (lit≤ tt)))),
+          (sized-≤ (lit≤ tt)
+          (divided_up_sized (times_up_sized c.requires.sized.0 c.requires.sized.1) (count_sized 2 (lit≤ tt)) (of_whole_above 2 (lit≤ tt)))),
       shifted_sized 6 (lit≤ tt) (quotient_sized o (same_figure c.times-span.ensures) (same_figure c.divided.ensures)) (same_figure c.times_ten.ensures),
     )
 

@@ -24,11 +24,11 @@ class3_loss-y-requires-clause-digits_nonzero c =
 pub factor_of-requires : goal.factor_of-requires
 factor_of-requires c =
     let s = c.requires.sized in
-    let low = grains_positive 2 c.times_ten.result c.least-n.ensures.value in (
-      sized-≤ (lit≤ tt) s.0,
-      sized-≤ (lit≤ tt) s.2,
-      sized-≤ (lit≤ tt) (loss3_in_range c.args.rate c.args.moment c.args.time c.class3_loss-y.ensures s.1 s.3 s.4 c.requires.digits_nonzero.1 low c.least-n.ensures.upper_bound),
-    )
+    let low = grains_positive 2 c.times_ten.result c.least-n.ensures.value in
+    let loss =
+    loss3_in_range c.args.rate c.args.moment c.args.time c.class3_loss-y.ensures s.1 s.3 s.4 c.requires.digits_nonzero.1 low
+    c.least-n.ensures.upper_bound in
+    (sized-≤ (lit≤ tt) s.0, sized-≤ (lit≤ tt) s.2, sized-≤ (lit≤ tt) loss)
 
 pub returns : goal.returns
 returns c =
