@@ -1,5 +1,5 @@
 // A figure in 64 bits, as the table holds it: the digits in the low 30 bits, the power, raised by 2^20, above them, and at bit 51 its mark.
-ghost use Rattle.std.specs.Prelude.{◌≡◌, ◌%◌, ◌<◌, ◌≤◌, pos, ◌+ℤ◌, ◌-ℤ◌, ◌&&◌};
+ghost use Rattle.std.specs.Prelude.{◌≡◌, ◌%◌, ◌<◌, ◌≤◌, pos, ◌+ℤ◌, ◌-ℤ◌};
 ghost use Rattle.std.specs.Int.Signed.{mag};
 ghost use Rattle.figure.specs.Operands.{Operand};
 ghost use Rattle.tables.specs.Internal.Tables.{counted, marked, mark_of, told_of, unpacked};
@@ -48,6 +48,7 @@ impl Packed {
         }
     }
 
+    // The figure without its mark.
     pub fn figure(self) -> Figure
         ensures { result ≡ unpacked self }
     {
@@ -86,13 +87,6 @@ fn mark(kept: bool) -> u64
     ensures { result ≡ mark_of kept }
 {
     u64::from(kept) * MARK
-}
-
-// Whether both lost nothing.
-pub fn both(a: bool, b: bool) -> bool
-    ensures { result ≡ (a && b) }
-{
-    a && b
 }
 
 // A power above 0.
