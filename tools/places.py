@@ -29,7 +29,7 @@ class Function:
         self.signature = re.split(r"\n\s+(?:requires|ensures)\b", head)[0]
         self.name = re.search(r"fn (\w+)", self.signature).group(1)
         self.requires = re.findall(r"\n\s+requires (?:\w+ )?\{(.*)\}", head)
-        inside = re.search(r"\((.*)\)", self.signature, re.S)
+        inside = re.search(r"fn \w+(?:<[^(]*>)?\((.*)\)", self.signature, re.S)
         self.parameters = re.findall(r"(\w+): ((?:[^,()\[\]]|\[[^\]]*\]|\([^)]*\))+)", inside.group(1)) if inside else []
 
 
@@ -42,7 +42,10 @@ def functions(folder):
         lines = path.read_text(encoding="utf-8").split("\n")
         for at, line in enumerate(lines):
             start = re.match(r"( *)(?:pub(?:\(crate\))? )?(?:const )?(?:extern \"C\" )?fn ", line)
-            if start and not line.endswith(";"):
+            if not start:
+                continue
+            opened = next(i for i in range(at, len(lines)) if lines[i].strip() == "{" or lines[i].endswith((" {", ";")))
+            if not lines[opened].endswith(";"):
                 end = lines.index(start.group(1) + "}", at)
                 yield Function(str(path.relative_to(folder)), at + 1, lines[at : end + 1])
 
