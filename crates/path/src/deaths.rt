@@ -82,14 +82,14 @@ fn new_stem(prepared: &Prepared, path: &[u16], tip: Tip, exit: Exit) -> Option<S
 
 // The lower of a death path from its stem, its last step being of a class, with its share and factor; it is the nth of class 1 if it is of class 1.
 fn lower_of(
-    stem: Option<Stem<Figure>>,
+    stem: &Option<Stem<Figure>>,
     class: Class,
     share: Figure,
     factor: Figure,
     nth: Figure,
 ) -> Figure
-    requires { AnyStemSized stem × Sized 9 2000 share × Sized 9 2000 factor × Sized 9 2000 nth × (0 < nth.digits) }
-    ensures { result ≡ death_lower stem (class_for class) share factor nth }
+    requires { AnyStemSized stem.now × Sized 9 2000 share × Sized 9 2000 factor × Sized 9 2000 nth × (0 < nth.digits) }
+    ensures { result ≡ death_lower stem.now (class_for class) share factor nth }
 {
     let Some(shared) = stem else {
         return Figure::zero();
@@ -115,32 +115,8 @@ impl Cache {
         Cache { slow: None }
     }
 
-    // The stem of the death by `exit` after the path that ends at the tip: a slow exit's is kept for the deaths that follow.
-    fn stem(
-        &mut self,
-        prepared: &Prepared,
-        path: &[u16],
-        tip: Tip,
-        exit: Exit,
-    ) -> Option<Stem<Figure>>
-        requires last_step { LastStep (lent_by prepared.now) path.now tip exit }
-        requires cached { Cached (net_of prepared.now.words.now) (path_of (net_of prepared.now.words.now) path.now) tip.state self.old }
-        ensures stem_is { result ≡ stem_for (net_of prepared.now.words.now) path.now tip exit }
-        ensures stem_sized { AnyStemSized result }
-        ensures cached_still { Cached (net_of prepared.now.words.now) (path_of (net_of prepared.now.words.now) path.now) tip.state self.new }
-    {
-        if !exit.class.is_slow() {
-            return new_stem(prepared, path, tip, exit);
-        }
-        if let Some(kept) = self.slow {
-            return kept;
-        }
-        let stem = new_stem(prepared, path, tip, exit);
-        self.slow = Some(stem);
-        stem
-    }
-
-    // The lower of the death by `exit` after the path that ends at the tip, the nth step of class 1 if it is of class 1.
+    // The lower of the death by `exit` after the path that ends at the tip, the nth step of class 1 if it is of class 1. A slow exit's stem is kept for the
+    // deaths that follow.
     pub fn lower(
         &mut self,
         prepared: &Prepared,
@@ -154,8 +130,20 @@ impl Cache {
         ensures lower_value { result ≡ bound.lower (net_of prepared.now.words.now) (transition (net_of prepared.now.words.now) exit.index ∷ path_of (net_of prepared.now.words.now) path.now) }
         ensures cached_still { Cached (net_of prepared.now.words.now) (path_of (net_of prepared.now.words.now) path.now) tip.state self.new }
     {
-        let stem = self.stem(prepared, path, tip, exit);
         let j = usize::from(exit.index);
-        lower_of(stem, exit.class, prepared.share(j), prepared.factor(j), nth)
+        let share = prepared.share(j);
+        let factor = prepared.factor(j);
+        if !exit.class.is_slow() {
+            let stem = new_stem(prepared, path, tip, exit);
+            return lower_of(&stem, exit.class, share, factor, nth);
+        }
+        match &self.slow {
+            Some(kept) => lower_of(kept, exit.class, share, factor, nth),
+            None => {
+                let stem = new_stem(prepared, path, tip, exit);
+                self.slow = Some(stem);
+                lower_of(&stem, exit.class, share, factor, nth)
+            }
+        }
     }
 }

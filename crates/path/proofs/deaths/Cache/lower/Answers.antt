@@ -1,24 +1,70 @@
--- `lower` meets its contract: the lower follows from the stem, which leaves every figure on the way in range. Assumes nothing.
+-- `lower` meets its contract: the lower follows from the stem, which leaves every figure on the way in range, and the stem that was kept is that of every
+-- slow exit. Assumes nothing.
+use mathlib.Core.Path.{sym, ◌∙◌}
 use native.Mathlib.Omega.{arith}
 use lib.Dec.{lit≤}
 use Rattle.figure.proofs.Sized.{sized-≤}
 use Rattle.path.proofs.ExitTips.{divisor}
 use Rattle.path.proofs.PathSteps.{share_fine, factor_fine}
 use Rattle.path.proofs.DeathStems.{ones_high, death_at}
+use Rattle.path.proofs.DeathCache.{cached_some, slow_stem_for}
 use Rattle.path.proofs.deaths.Cache.lower.Goals as goal
 
 pub lower_of-requires : goal.lower_of-requires
 lower_of-requires c =
-    let h = c.requires.last_step.0 in let filled = c.args.prepared.now.filled in let share = rw c.from-j.ensures at c.share.ensures in
-    let factor = rw c.from-j.ensures at c.factor.ensures in let d = divisor _ (omega arith) (omega (arith, ones_high filled h)) c.requires.last_step.1 in (
-      c.stem-stem.ensures.stem_sized,
+    let h = c.requires.last_step.0 in let filled = c.args.prepared.now.filled in let share = rw c.from-j.ensures at c.share-share.ensures in
+    let factor = rw c.from-j.ensures at c.factor-factor.ensures in
+    let d = divisor _ (omega arith) (omega (arith, ones_high filled h)) c.requires.last_step.1 in (
+      c.new_stem-stem.ensures.stem_sized,
       rw share (sized-≤ (lit≤ tt) (share_fine filled h.index)),
       rw factor (sized-≤ (lit≤ tt) (factor_fine filled h.index)),
       d.0,
       d.1,
     )
 
-pub returns-clause-lower_value : goal.returns-clause-lower_value
-returns-clause-lower_value c =
-    let share = rw c.from-j.ensures at c.share.ensures in let factor = rw c.from-j.ensures at c.factor.ensures in
-    death_at c.args.prepared.now.filled c.requires.last_step.0 c.stem-stem.ensures.stem_is share factor c.requires.last_step.1 c.lower_of.ensures
+pub returns-then-not-is_slow-clause-lower_value : goal.returns-then-not-is_slow-clause-lower_value
+returns-then-not-is_slow-clause-lower_value c =
+    let h = c.requires.last_step.0 in let share = rw c.from-j.ensures at c.share-share.ensures in
+    let factor = rw c.from-j.ensures at c.factor-factor.ensures in
+    death_at c.args.prepared.now.filled h c.new_stem-stem.ensures.stem_is share factor c.requires.last_step.1 c.lower_of.ensures
+
+pub lower_of-requires-in-Some : goal.lower_of-requires-in-Some
+lower_of-requires-in-Some c =
+    let h = c.requires.last_step.0 in let filled = c.args.prepared.now.filled in let share = rw c.from-j.ensures at c.share-share.ensures in
+    let factor = rw c.from-j.ensures at c.factor-factor.ensures in
+    let d = divisor _ (omega arith) (omega (arith, ones_high filled h)) c.requires.last_step.1 in (
+      c.requires.cached.sized _ c.in-Some.is,
+      rw share (sized-≤ (lit≤ tt) (share_fine filled h.index)),
+      rw factor (sized-≤ (lit≤ tt) (factor_fine filled h.index)),
+      d.0,
+      d.1,
+    )
+
+pub lower_of-requires-in-None : goal.lower_of-requires-in-None
+lower_of-requires-in-None c =
+    let h = c.requires.last_step.0 in let filled = c.args.prepared.now.filled in let share = rw c.from-j.ensures at c.share-share.ensures in
+    let factor = rw c.from-j.ensures at c.factor-factor.ensures in
+    let d = divisor _ (omega arith) (omega (arith, ones_high filled h)) c.requires.last_step.1 in (
+      c.new_stem-stem-in-None.ensures.stem_sized,
+      rw share (sized-≤ (lit≤ tt) (share_fine filled h.index)),
+      rw factor (sized-≤ (lit≤ tt) (factor_fine filled h.index)),
+      d.0,
+      d.1,
+    )
+
+pub returns-in-Some-clause-lower_value : goal.returns-in-Some-clause-lower_value
+returns-in-Some-clause-lower_value c =
+    let h = c.requires.last_step.0 in let share = rw c.from-j.ensures at c.share-share.ensures in
+    let factor = rw c.from-j.ensures at c.factor-factor.ensures in
+    death_at c.args.prepared.now.filled h (c.requires.cached.stem_is _ c.in-Some.is ∙ sym (slow_stem_for h c.is_slow.ensures c.if-not-is_slow.false)) share factor c.requires.last_step.1 c.lower_of-in-Some.ensures
+
+pub returns-in-None-clause-lower_value : goal.returns-in-None-clause-lower_value
+returns-in-None-clause-lower_value c =
+    let h = c.requires.last_step.0 in let share = rw c.from-j.ensures at c.share-share.ensures in
+    let factor = rw c.from-j.ensures at c.factor-factor.ensures in
+    death_at c.args.prepared.now.filled h c.new_stem-stem-in-None.ensures.stem_is share factor c.requires.last_step.1 c.lower_of-in-None.ensures
+
+pub returns-in-None-clause-cached_still : goal.returns-in-None-clause-cached_still
+returns-in-None-clause-cached_still c =
+    let h = c.requires.last_step.0 in
+    cached_some (c.new_stem-stem-in-None.ensures.stem_is ∙ slow_stem_for h c.is_slow.ensures c.if-not-is_slow.false) c.new_stem-stem-in-None.ensures.stem_sized
