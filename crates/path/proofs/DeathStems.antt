@@ -13,7 +13,7 @@ use Rattle.std.specs.Prelude.{Option, None, Some}
 use Rattle.figure.specs.declared.Figure.{Figure}
 use Rattle.figure.specs.Rounding.{none, up, down}
 use Rattle.figure.specs.Operands.{Sized}
-use Rattle.figure.specs.Operations.{times_up, times_down, plus_up, minus_down, divided_up, divided_down, times_ten, of_whole}
+use Rattle.figure.specs.Operations.{times_up, times_down, plus_up, divided_down, times_ten, of_whole}
 use Rattle.figure.specs.Losses.{keeps, times_keeps}
 use Rattle.figure.proofs.Sized.{sized-≤}
 use Rattle.word.specs.Internal.Lists.{Each}
@@ -30,7 +30,7 @@ use Rattle.tree.proofs.RemainingTime.{remaining_time_down, remaining_time_up, re
 use Rattle.tree.proofs.Ranges.{class1_count-≤, path_rate_sum_sized, count_sized, mission_time_sized, time_down_sized, time_up_sized, last_sized, lower_sized}
 use Rattle.tables.specs.Internal.Classes.{class_for, is_class1}
 use Rattle.tables.specs.Internal.Tables.{step_factor}
-use Rattle.tables.proofs.Classes.{step_valid, one_true, one_false, counts_none}
+use Rattle.tables.proofs.Classes.{step_valid, one_true, one_false}
 use Rattle.path.specs.declared.exits.Tip.{Tip}
 use Rattle.path.specs.declared.exits.Exit.{Exit}
 use Rattle.path.specs.declared.deaths.Stem.{Stem}

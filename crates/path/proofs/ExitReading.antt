@@ -1,16 +1,15 @@
 -- An exit of the tip's state as the code reads it: by its word and the table. Assumes nothing.
-use Prim.Native.Nat.{ℕ, ◌≤◌, ◌<◌}
+use Prim.Native.Nat.{ℕ, ◌≤◌}
 use mathlib.Core.Path.{◌≡◌, refl, sym, ap, ◌∙◌}
 use mathlib.Core.Bool.{Bool}
 use native.Mathlib.Omega.{arith}
 use lib.Dec.{eqb, lit≤}
-use lib.ListN.{length}
 use Rattle.figure.specs.declared.Figure.{Figure}
 use Rattle.figure.specs.Operands.{Sized}
 use Rattle.figure.proofs.Sized.{sized-≤}
 use Rattle.word.specs.Model.{Transition}
 use Rattle.word.specs.Words.{kind, to_field}
-use Rattle.model.specs.Index.{transition, place_of}
+use Rattle.model.specs.Index.{transition}
 use Rattle.model.specs.Internal.Valid.{Valid}
 use Rattle.model.proofs.Slots.{word, stands_to}
 use Rattle.tree.specs.Paths.{Class, class}
@@ -20,7 +19,7 @@ use Rattle.tree.proofs.Ranges.{share_sized, mean_up_sized, mission_time_sized}
 use Rattle.tables.specs.declared.class.Class.{Class as Coded}
 use Rattle.tables.specs.Internal.Classes.{class_for, class_by}
 use Rattle.tables.specs.Internal.Tables.{share_in, mean_up_in}
-use Rattle.tables.proofs.Classes.{step_valid, index_small, origin_small, place_inside, class_read}
+use Rattle.tables.proofs.Classes.{step_valid, origin_small, class_read}
 use Rattle.path.specs.declared.exits.Tip.{Tip}
 use Rattle.path.specs.Internal.Lent.{Lent, Filled, model_in, net_in}
 use Rattle.path.specs.Internal.Exits.{tip_by, ExitReady, ExitOf}
@@ -51,12 +50,6 @@ module _ {l : Lent} {time : Figure} (filled : Filled l) (time_is : time ≡ miss
 
   -- j is the exit's index
   module _ {j : ℕ} (j-is : j ≡ x) where
-    pub exit_small : j < 4000
-    exit_small = rw j-is (index_small valid h.index)
-
-    pub exit_inside : place_of l.index j < length l.words
-    exit_inside = rw j-is (place_inside filled.indexes h.index)
-
     module _ {s : Figure} (s-is : s ≡ share_in l.table j) where
       share_is : s ≡ share exit.manner
       share_is = s-is ∙ ap (share_in l.table) j-is ∙ filled.tabled.steps.shares x h.index

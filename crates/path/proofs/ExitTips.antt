@@ -1,12 +1,12 @@
--- U and the tip of a path one step further: the figures on the way are in range, and the results go by the class of the step. Assumes nothing.
+-- The tip of a path one step further: the number that U may be divided by is in range, and the results go by the class of the step. Assumes nothing.
 use Prim.Native.Nat.{ℕ, ◌+◌, ◌≤◌, ◌<◌}
 use mathlib.Core.Path.{◌≡◌, refl, ap}
 use native.Mathlib.Nat.{le_trans, add_comm}
 use lib.Dec.{lit≤}
 use Rattle.figure.specs.declared.Figure.{Figure}
-use Rattle.figure.specs.Operands.{Sized, Operand}
-use Rattle.figure.specs.Operations.{times_up, of_whole}
-use Rattle.figure.proofs.Sized.{sized-≤, times_up_sized}
+use Rattle.figure.specs.Operands.{Sized}
+use Rattle.figure.specs.Operations.{of_whole}
+use Rattle.figure.proofs.Sized.{sized-≤}
 use Rattle.word.specs.Model.{Transition, Net}
 use Rattle.tree.specs.Paths.{Class, class1, class2, class3, class, counts_1}
 use Rattle.tree.specs.States.{mission_time, mean_up}
@@ -16,17 +16,7 @@ use Rattle.tree.proofs.Ranges.{count_sized}
 use Rattle.path.specs.declared.exits.Tip.{Tip}
 use Rattle.path.specs.Internal.Exits.{upper_by, tip_by, tip_after}
 
--- ---- U
-
-module _ {u s : Figure} (upper : Sized 9 20000 u) (small : Sized 9 1000 s) {a : Figure} (by-share : a ≡ times_up u s) where
-  pub by_share_operand : Operand 9 a
-  by_share_operand = rw by-share (sized-≤ (lit≤ tt) (times_up_sized upper small))
-
-  pub by_time_operand : {t b : Figure} → Sized 9 1000 t → b ≡ times_up a t → Operand 9 b
-  by_time_operand h e = rw (e, by-share) (sized-≤ (lit≤ tt) (times_up_sized (times_up_sized upper small) h))
-
-pub small_operand : {f : Figure} → Sized 9 1000 f → Operand 9 f
-small_operand h = sized-≤ (lit≤ tt) h
+-- ---- the number of the next class 1 step
 
 pub divisor : (k : ℕ) {f : Figure} → 0 < k → k ≤ 24 → f ≡ of_whole k → Sized 9 2000 f × (0 < f.digits)
 divisor k low high e = rw e (sized-≤ (lit≤ tt) (count_sized k (le_trans high (lit≤ tt))), of_whole_above k low)

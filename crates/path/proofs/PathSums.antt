@@ -4,7 +4,6 @@ use Prim.Native.Nat.{ℕ, zero, suc, ◌+◌, ◌*◌, ◌<◌, ◌≤◌}
 use mathlib.Core.Path.{◌≡◌, refl, sym, ap, ◌∙◌}
 use mathlib.Core.Bool.{Bool, true, false, ◌&&◌}
 use mathlib.Core.List.{List, [], ◌∷◌, ◌++◌}
-use native.Mathlib.Nat.{le_trans}
 use native.Mathlib.Omega.{arith}
 use lib.Dec.{lit≤}
 use lib.ListN.{length, get_or}
@@ -25,7 +24,7 @@ use Rattle.model.specs.Internal.Valid.{ValidManner, Valid}
 use Rattle.tree.specs.Paths.{Path, Class, class1, class2, class3, class, counts_1, class1_count}
 use Rattle.tree.specs.States.{rate_sum}
 use Rattle.tree.specs.Upper.{share, upper}
-use Rattle.tree.specs.Grains.{grains, grains_in, grain_sum}
+use Rattle.tree.specs.Grains.{grains_in, grain_sum}
 use Rattle.tree.specs.Lower.{lower_step, lower_product, add_rates, path_rate_sum}
 use Rattle.tree.specs.Marks.{rate_sum_kept, rates_kept_by, path_rates_kept, lower_step_kept, lower_product_kept}
 use Rattle.tree.proofs.Least.{GrainsOf, grains_of_class, grains_high}

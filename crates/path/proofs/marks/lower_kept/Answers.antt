@@ -1,11 +1,7 @@
 -- `lower_kept` meets its contract: N', A and k are those of the path, and the marks are those of the lower. Assumes nothing.
-use mathlib.Core.Path.{ap, ◌∙◌}
+use mathlib.Core.Path.{◌∙◌}
 use lib.Dec.{lit≤}
-use Rattle.figure.specs.declared.Rounded.{Rounded}
 use Rattle.figure.proofs.Sized.{sized-≤}
-use Rattle.tree.proofs.Ranges.{last_sized}
-use Rattle.tables.specs.Internal.Described.{net_of}
-use Rattle.path.specs.Internal.Paths.{path_of}
 use Rattle.path.proofs.PathSums.{rates_fine, ones_few}
 use Rattle.path.proofs.LowerMarks.{lower_filled, lower_true, lower_false, product_part_fine, last_part_fine}
 use Rattle.path.proofs.marks.lower_kept.Goals as goal

@@ -1,5 +1,5 @@
 -- `upper_kept` meets its contract. The loop's invariant: U and k, with U's mark, are those of the path so far. Assumes nothing.
-use mathlib.Core.Path.{ap, ◌∙◌}
+use mathlib.Core.Path.{ap}
 use native.Mathlib.Omega.{arith}
 use lib.Dec.{lit≤}
 use Rattle.std.proofs.lemmas.List.{take_all}
