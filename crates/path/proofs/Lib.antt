@@ -1,11 +1,11 @@
 pub mod VisitNoted
-pub mod ExitTips
-pub mod ExitReading
+mod ExitTips
+mod ExitReading
 mod Regrouped
 pub mod PathSums
 mod UpperMarks
 mod LowerMarks
-pub mod PathSteps
-pub mod MarkFacts
+mod PathSteps
+mod MarkFacts
 pub mod DeathStems
-pub mod DeathCache
+mod DeathCache

@@ -1,9 +1,8 @@
 // What a path's lower rests on: N', A and the product of the factors, along its steps. The walk takes A and the product for figures alone, the marks for
 // figures that tell.
-ghost use Rattle.std.specs.Prelude.{◌≡◌, ◌+◌, ◌<◌, ◌≤◌, ◌&&◌, Bool, true};
+ghost use Rattle.std.specs.Prelude.{◌≡◌, ◌≤◌, Bool};
 ghost use Rattle.figure.specs.declared.Figure.{Figure};
 ghost use Rattle.figure.specs.Operands.{Sized};
-ghost use Rattle.figure.specs.Operations as ops;
 ghost use Rattle.tree.specs.Paths.{class1_count};
 ghost use Rattle.tree.specs.Grains.{grain_sum};
 ghost use Rattle.tree.specs.Lower as bound;

@@ -33,7 +33,6 @@ pub(crate) struct Leaving {
 impl Prepared<'_> {
     ghost use Rattle.std.specs.Prelude.{◌<◌, ◌≤◌, true, length, []};
     ghost use Rattle.model.specs.Index.{transition};
-    ghost use Rattle.tree.specs.Paths.{class};
     ghost use Rattle.tree.specs.Upper as upper;
     ghost use Rattle.tree.specs.States as states;
     ghost use Rattle.tree.specs.Marks as marks;
