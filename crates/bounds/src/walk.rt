@@ -22,6 +22,7 @@ pub(crate) struct Task {
 
 // Walks every exit of the tip's state. `left` is the number of steps that the path may still take. It hands back the counts with the steps taken,
 // keeps all totals in `rows`, and stops at the first step past the budget. The entry counts are set back, and the path up to the tip stays as it is.
+// kept: the path is an array of the longest one with the tip's length beside it, since nothing here is allocated and a slice does not grow.
 pub(crate) fn walk(
     prepared: &Prepared,
     task: Task,
