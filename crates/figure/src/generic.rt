@@ -2,11 +2,13 @@
 ghost use Rattle.std.specs.Prelude.{◌≡◌, ◌≤◌, ◌<◌, ◌&&◌, Bool, true, refl};
 ghost use Rattle.std.specs.Int.Signed.{mag};
 ghost use Rattle.std.proofs.Common.{ap};
+ghost use Rattle.figure.specs.declared.Direction.{Direction};
 ghost use Rattle.figure.specs.declared.Figure.{Figure};
 ghost use Rattle.figure.specs.Operands.{Operand};
 ghost use Rattle.figure.specs.Operations as ops;
 ghost use Rattle.figure.specs.Losses as losses;
 ghost use Rattle.figure.specs.Losses.{told};
+ghost use Rattle.figure.specs.Internal.Directions.{opposite, same};
 
 use crate::{Direction, Figure, Rounded, whole};
 
@@ -149,7 +151,22 @@ impl Arithmetic for Figure {
     ghost tells = { λ x. (true, refl) };
 }
 
-// Each operation is rounded both ways: nothing is lost exactly if both come to the same figure. `&` has no branch.
+impl Rounded {
+    // An operation that is rounded as `to` says, and the other way too: nothing is lost exactly if both come to the same figure, and nothing was lost of its
+    // operands.
+    fn both_ways<F: Fn(Direction) -> Figure>(to: Direction, kept: bool, operation: F) -> Rounded
+        requires { F.IsAlwaysCallable operation }
+        ensures { (op : Direction → Figure) → ((d : Direction) (f : Figure) → F.post operation d f → f ≡ op d) → result ≡ told (op to) (kept && same (op to) (op (opposite to))) }
+    {
+        let figure = operation(to);
+        let turned = operation(to.opposite());
+        Rounded {
+            figure,
+            kept: kept & (figure == turned),
+        }
+    }
+}
+
 impl Arithmetic for Rounded {
     ghost figure_of = { λ x. x.figure };
 
@@ -162,18 +179,16 @@ impl Arithmetic for Rounded {
     fn of_whole(n: u64) -> Rounded
         ensures { result ≡ told (ops.of_whole n) (losses.whole_keeps n) }
     {
-        let figure = Figure::of_whole(n);
-        let kept = figure == whole::fitted(Direction::Up, n, 0);
-        Rounded { figure, kept }
+        Rounded::both_ways(Direction::Down, true, |d| whole::fitted(d, n, 0))
     }
 
     fn of_quantity(c: u32, p: u32) -> Rounded
         requires { p ≤ 255 }
         ensures { result ≡ told (ops.of_quantity c p) (losses.quantity_keeps c p) }
     {
-        let figure = Figure::of_quantity(c, p);
-        let kept = figure == whole::fitted(Direction::Down, u64::from(c), -(p as i32));
-        Rounded { figure, kept }
+        let n = u64::from(c);
+        let power = -(p as i32);
+        Rounded::both_ways(Direction::Up, true, |d| whole::fitted(d, n, power))
     }
 
     fn figure(self) -> Figure {
@@ -195,84 +210,55 @@ impl Arithmetic for Rounded {
         requires { Operand 9 self.figure × Operand 9 other.figure }
         ensures { result ≡ told (ops.times to self.figure other.figure) (self.kept && (other.kept && losses.times_keeps self.figure other.figure)) }
     {
-        let figure = self.figure.times(other.figure, to);
-        let turned = self.figure.times(other.figure, to.opposite());
-        Rounded {
-            figure,
-            kept: self.kept & (other.kept & (figure == turned)),
-        }
+        let kept = self.kept & other.kept;
+        Rounded::both_ways(to, kept, |d| self.figure.times(other.figure, d))
     }
 
     fn plus(self, other: Rounded, to: Direction) -> Rounded
         requires { Operand 9 self.figure × Operand 9 other.figure }
         ensures { result ≡ told (ops.plus to self.figure other.figure) (self.kept && (other.kept && losses.plus_keeps self.figure other.figure)) }
     {
-        let figure = self.figure.plus(other.figure, to);
-        let turned = self.figure.plus(other.figure, to.opposite());
-        Rounded {
-            figure,
-            kept: self.kept & (other.kept & (figure == turned)),
-        }
+        let kept = self.kept & other.kept;
+        Rounded::both_ways(to, kept, |d| self.figure.plus(other.figure, d))
     }
 
     fn minus(self, other: Rounded, to: Direction) -> Rounded
         requires { Operand 9 self.figure × Operand 9 other.figure }
         ensures { result ≡ told (ops.minus to self.figure other.figure) (self.kept && (other.kept && losses.minus_keeps self.figure other.figure)) }
     {
-        let figure = self.figure.minus(other.figure, to);
-        let turned = self.figure.minus(other.figure, to.opposite());
-        Rounded {
-            figure,
-            kept: self.kept & (other.kept & (figure == turned)),
-        }
+        let kept = self.kept & other.kept;
+        Rounded::both_ways(to, kept, |d| self.figure.minus(other.figure, d))
     }
 
     fn divided(self, other: Rounded, to: Direction) -> Rounded
         requires { Operand 9 self.figure × Operand 9 other.figure × (0 < other.figure.digits) }
         ensures { result ≡ told (ops.divided to self.figure other.figure) (self.kept && (other.kept && losses.divided_keeps self.figure other.figure)) }
     {
-        let figure = self.figure.divided(other.figure, to);
-        let turned = self.figure.divided(other.figure, to.opposite());
-        Rounded {
-            figure,
-            kept: self.kept & (other.kept & (figure == turned)),
-        }
+        let kept = self.kept & other.kept;
+        Rounded::both_ways(to, kept, |d| self.figure.divided(other.figure, d))
     }
 
     fn total(self, a: Rounded, to: Direction) -> Rounded
         requires { Operand 18 self.figure × Operand 9 a.figure }
         ensures { result ≡ told (ops.total to self.figure a.figure) (self.kept && (a.kept && losses.total_keeps self.figure a.figure)) }
     {
-        let figure = self.figure.total(a.figure, to);
-        let turned = self.figure.total(a.figure, to.opposite());
-        Rounded {
-            figure,
-            kept: self.kept & (a.kept & (figure == turned)),
-        }
+        let kept = self.kept & a.kept;
+        Rounded::both_ways(to, kept, |d| self.figure.total(a.figure, d))
     }
 
     fn to_nine(self, to: Direction) -> Rounded
         requires { Operand 18 self.figure }
         ensures { result ≡ told (ops.to_nine to self.figure) (self.kept && losses.to_nine_keeps self.figure) }
     {
-        let figure = self.figure.to_nine(to);
-        let turned = self.figure.to_nine(to.opposite());
-        Rounded {
-            figure,
-            kept: self.kept & (figure == turned),
-        }
+        Rounded::both_ways(to, self.kept, |d| self.figure.to_nine(d))
     }
 
     fn sum_to_nine(self, other: Rounded, to: Direction) -> Rounded
         requires { Operand 18 self.figure × Operand 18 other.figure }
         ensures { result ≡ told (ops.sum_to_nine to self.figure other.figure) (self.kept && (other.kept && losses.sum_to_nine_keeps self.figure other.figure)) }
     {
-        let figure = self.figure.sum_to_nine(other.figure, to);
-        let turned = self.figure.sum_to_nine(other.figure, to.opposite());
-        Rounded {
-            figure,
-            kept: self.kept & (other.kept & (figure == turned)),
-        }
+        let kept = self.kept & other.kept;
+        Rounded::both_ways(to, kept, |d| self.figure.sum_to_nine(other.figure, d))
     }
 
     ghost figure_is = { λ x f k e. ap (λ r. r.figure) e };
