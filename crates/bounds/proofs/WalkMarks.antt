@@ -26,7 +26,8 @@ module _ (k : Marks) (table : RowTable) where
   -- both marks are lost
   pub closed_marked : (table.lower_kept || table.upper_kept) ≡ false → MarksNoted k table table
   closed_marked e =
-      unchanged (lost table.lower_kept k.lower (first table.lower_kept table.upper_kept e)) (lost table.upper_kept k.upper (second table.lower_kept table.upper_kept e))
+      unchanged (lost table.lower_kept k.lower (first table.lower_kept table.upper_kept e))
+      (lost table.upper_kept k.upper (second table.lower_kept table.upper_kept e))
     where
       first : (a b : Bool) → (a || b) ≡ false → a ≡ false
       first true b e = absurd (true≢false e)
