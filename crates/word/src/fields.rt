@@ -29,7 +29,7 @@ fn lower(w: u32) -> usize
     bits(w, 11, 0) as usize
 }
 
-// The kind's number, which `Kind::of` names.
+// The number of its kind, which `Kind::of` names.
 pub fn kind(w: u32) -> u32
     ensures { result ≡ fields.kind w }
 {

@@ -1,12 +1,12 @@
 // The kind of a word, which bits 31 to 28 say.
-ghost use Rattle.std.specs.Prelude.{◌≡◌, ◌≢◌, MatchOption};
-ghost use Rattle.word.specs.declared.kinds.Kind as declared;
+ghost use Rattle.std.specs.Prelude.{ℕ, ◌≡◌};
+ghost use Rattle.word.specs.declared.kinds.Kind.TheVariants.{Other};
 ghost use Rattle.word.specs.Kinds as kinds;
 ghost use Rattle.word.specs.Words as fields;
 
 use crate::fields::kind;
 
-// What a word is, as its kind says. The documents give no word the kinds 0, 11, 13 and 14.
+// What a word is, as its kind says.
 #[derive(Clone, Copy, PartialEq, Eq)]
 pub enum Kind {
     Head,
@@ -21,27 +21,51 @@ pub enum Kind {
     Probability,
     NamedState,
     End,
+    // A number that the documents give no word.
+    Other(u32),
 }
 
 impl Kind {
-    // The kind of the word w, where the documents have a word of its kind.
-    pub fn of(w: u32) -> Option<Kind>
-        ensures { MatchOption result ((k : declared.Kind) → kinds.kind_number k ≢ fields.kind w) (λ k. kinds.kind_number k ≡ fields.kind w) }
+    // The kind of the word w.
+    pub fn of(w: u32) -> Kind
+        ensures number { kinds.kind_number result ≡ fields.kind w }
+        ensures other { (n : ℕ) → result ≡ Other n → kinds.IsUnnamed n }
     {
         match kind(w) {
-            1 => Some(Kind::Head),
-            2 => Some(Kind::MissionTime),
-            3 => Some(Kind::PruneLevel),
-            4 => Some(Kind::Caps),
-            5 => Some(Kind::SlowTransition),
-            6 => Some(Kind::Rate),
-            7 => Some(Kind::FastTransition),
-            8 => Some(Kind::Mean),
-            9 => Some(Kind::Deviation),
-            10 => Some(Kind::Probability),
-            12 => Some(Kind::NamedState),
-            15 => Some(Kind::End),
-            _ => None,
+            1 => Kind::Head,
+            2 => Kind::MissionTime,
+            3 => Kind::PruneLevel,
+            4 => Kind::Caps,
+            5 => Kind::SlowTransition,
+            6 => Kind::Rate,
+            7 => Kind::FastTransition,
+            8 => Kind::Mean,
+            9 => Kind::Deviation,
+            10 => Kind::Probability,
+            12 => Kind::NamedState,
+            15 => Kind::End,
+            number => Kind::Other(number),
+        }
+    }
+
+    // The number that bits 31 to 28 of a word of this kind are.
+    pub fn number(self) -> u32
+        ensures { result ≡ kinds.kind_number self }
+    {
+        match self {
+            Kind::Head => 1,
+            Kind::MissionTime => 2,
+            Kind::PruneLevel => 3,
+            Kind::Caps => 4,
+            Kind::SlowTransition => 5,
+            Kind::Rate => 6,
+            Kind::FastTransition => 7,
+            Kind::Mean => 8,
+            Kind::Deviation => 9,
+            Kind::Probability => 10,
+            Kind::NamedState => 12,
+            Kind::End => 15,
+            Kind::Other(number) => number,
         }
     }
 
@@ -49,6 +73,6 @@ impl Kind {
     pub fn is_of(self, w: u32) -> bool
         ensures { result ≡ kinds.is_of self w }
     {
-        Kind::of(w) == Some(self)
+        kind(w) == self.number()
     }
 }
