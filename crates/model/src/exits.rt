@@ -2,6 +2,7 @@
 ghost use Rattle.std.specs.Prelude.{◌≤◌};
 
 // The numbers of a state's exits in the table stand in the first `count` slots; `named` says whether the state is one of the generator's.
+// kept: (a) an array and a count, since nothing is allocated
 #[derive(Clone, Copy)]
 pub struct StateExits {
     pub slots: [u16; 16],

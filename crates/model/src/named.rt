@@ -11,6 +11,7 @@ use word::{Refusal, faults};
 
 // Reads the words that name states, from place 4 on, and begins the index, whatever it held, with these: the place behind them, where the transitions
 // begin.
+// kept: (d) `words`, `a` and the bound of their length: `read` calls three functions one after the other, and each would take a struct of these apart
 pub(crate) fn name_states(words: &[u32], a: Accepted, index: &mut Index) -> Result<usize, Refusal>
     requires opened { IsOpened words.now a }
     requires words_len_bound { length words.now ≤ most_words }
@@ -43,6 +44,7 @@ pub(crate) fn lowest_leading_on(index: &Index, states: usize) -> Option<usize>
     requires { states ≤ 1000 }
     ensures { IsLowestOf (leads_on_by index.now) states result }
 {
+    // kept: (c) `1..=states` was tried: std's lemma on `find` is over Range only
     (1..states + 1).find(
         |&s|
             requires { s ≤ 1000 }

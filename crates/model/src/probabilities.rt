@@ -22,6 +22,7 @@ fn units(w: u32) -> u64
 }
 
 // The sum of the probabilities of the fast exits of the state s.
+// kept: (d) the words and the index are one value only once the index is whole, as `Indexed` of tables says it of an accepted model
 fn fast_sum(words: &[u32], index: &Index, s: usize) -> Option<u64>
     requires { Leads words.now index.now s }
     ensures { IsFastSum (slot_transitions words.now index.now s) result }
@@ -49,6 +50,7 @@ pub(crate) fn lowest_uneven(words: &[u32], states: usize, index: &Index) -> Opti
     requires { (states ≤ 1000) × ((s : ℕ) → s ≤ states → Leads words.now index.now s) }
     ensures { IsLowestOf (uneven_by words.now index.now) states result }
 {
+    // kept: (c) `1..=states` was tried: std's lemma on `find` is over Range only
     (1..states + 1).find(
         |&s|
             requires { Leads words.now index.now s }

@@ -1,5 +1,5 @@
 // Transitions in any order, up to the end, and the index of exits that they fill.
-ghost use Rattle.std.specs.Prelude.{◌≤◌, ◌<◌, ◌≡◌, length};
+ghost use Rattle.std.specs.Prelude.{◌≤◌, ◌<◌, ◌≡◌, true, false, length};
 ghost use Rattle.word.specs.Words as fields;
 ghost use Rattle.word.specs.Internal.Tests.{answer, first_fault};
 ghost use Rattle.model.specs.Reading.{most_words};
@@ -25,15 +25,21 @@ fn room(words: &[u32], w: u32, at: usize, known: usize, index: &Index) -> Result
     ensure(few, Refusal::TooManyTransitions(at))
 }
 
-// The words behind a transition's own, from place `at` on: the rate; or the mean, the deviation and the probability.
+// The word behind a slow transition's own, at place `at`: the rate.
 #[tactic(auto, using(word::proofs::Parts::part_from), unfolding(crate::specs::Internal::Parts::words_answer, word::specs::Answer::then))]
-fn body(words: &[u32], at: usize, fast: bool) -> Result<(), Refusal>
+fn rate(words: &[u32], at: usize) -> Result<(), Refusal>
     requires { at ≤ length words.now }
-    ensures { answer result ≡ parts.words_answer (parts.body_faults fast) at words.now }
+    ensures { answer result ≡ parts.words_answer (parts.body_faults false) at words.now }
 {
-    if !fast {
-        return faults::quantity(&words[at..], at, Kind::Rate, 20, 1);
-    }
+    faults::quantity(&words[at..], at, Kind::Rate, 20, 1)
+}
+
+// The words behind a fast transition's own, from place `at` on: the mean, the deviation and the probability.
+#[tactic(auto, using(word::proofs::Parts::part_from), unfolding(crate::specs::Internal::Parts::words_answer, word::specs::Answer::then))]
+fn spread(words: &[u32], at: usize) -> Result<(), Refusal>
+    requires { at ≤ length words.now }
+    ensures { answer result ≡ parts.words_answer (parts.body_faults true) at words.now }
+{
     faults::quantity(&words[at..], at, Kind::Mean, 20, 1)?;
     let second = at + 1;
     faults::quantity(&words[second..], second, Kind::Deviation, 20, 0)?;
@@ -69,7 +75,11 @@ impl Progress<'_> {
         let w = self.words[self.at];
         faults::transition(w, self.at, self.a.states)?;
         room(self.words, w, self.at, self.known, index)?;
-        body(self.words, self.at + 1, is_fast(w))
+        if is_fast(w) {
+            spread(self.words, self.at + 1)
+        } else {
+            rate(self.words, self.at + 1)
+        }
     }
 
     // One transition more: the place behind it.
@@ -107,6 +117,7 @@ impl Progress<'_> {
 }
 
 // All transitions, from the place `first` on, up to the end.
+// kept: (d) `words`, `a` and the bound of their length: `read` calls three functions one after the other, and each would take a struct of these apart
 pub(crate) fn list(
     words: &[u32],
     a: Accepted,
@@ -117,13 +128,13 @@ pub(crate) fn list(
     requires words_len_bound { length words.now ≤ most_words }
     ensures { parts.Listed a words.now index.new result }
 {
-    // kept: (d) the place of each transition follows from the word before, so no range or iterator gives it
     let mut so_far = Progress {
         words,
         a,
         at: first,
         known: 0,
     };
+    // kept: (d) the place of each transition follows from the word before, so no range or iterator gives it
     while let Some(behind) = so_far.next(index)? {
         so_far.at = behind;
         so_far.known += 1;

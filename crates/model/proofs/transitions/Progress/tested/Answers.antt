@@ -1,7 +1,6 @@
 -- `model::transitions::Progress::tested` meets its contract. Assumes nothing.
-use Rattle.std.proofs.Common.{sym, ap, ◌∙◌, arith, ◌+◌, ◌<◌, Bool, get_or}
+use Rattle.std.proofs.Common.{sym, ◌∙◌, arith, ◌<◌, get_or}
 use Rattle.std.proofs.lemmas.Result.{err_from_is_err_and}
-use Rattle.model.specs.Internal.Parts.{words_answer, body_faults}
 use Rattle.model.proofs.Filled.{leads}
 use Rattle.model.proofs.Turn.{fields_stop, from_small, room_stop, tested_is}
 use Rattle.model.proofs.transitions.Progress.tested.Goals as goal
@@ -22,8 +21,14 @@ returns-in_err-room c =
     let small : get_or c.args.self.now.words.now c.args.self.now.at 0 < 4294967296 = omega arith in
     rw (p.1, p.2) (room_stop _ _ _ _ _ c.requires small (sym c.in_ok-transition.ensures) _ _ (sym c.in_err-room.ensures))
 
-pub returns : goal.returns
-returns c =
+pub returns-then-is_fast : goal.returns-then-is_fast
+returns-then-is_fast c =
     let small : get_or c.args.self.now.words.now c.args.self.now.at 0 < 4294967296 = omega arith in
-    tested_is _ _ _ _ _ c.requires small (sym c.in_ok-transition.ensures) (sym c.in_ok-room.ensures) c.body.result
-    (c.body.ensures ∙ ap (λ (b : Bool). words_answer (body_faults b) (c.args.self.now.at + 1) c.args.self.now.words.now) c.is_fast.ensures)
+    tested_is _ _ _ _ _ c.requires small (sym c.in_ok-transition.ensures) (sym c.in_ok-room.ensures) c.spread.result
+    (c.spread.ensures ∙ rw (sym c.is_fast.ensures, c.if-is_fast.true))
+
+pub returns-else-is_fast : goal.returns-else-is_fast
+returns-else-is_fast c =
+    let small : get_or c.args.self.now.words.now c.args.self.now.at 0 < 4294967296 = omega arith in
+    tested_is _ _ _ _ _ c.requires small (sym c.in_ok-transition.ensures) (sym c.in_ok-room.ensures) c.rate.result
+    (c.rate.ensures ∙ rw (sym c.is_fast.ensures, c.if-is_fast.false))
