@@ -102,10 +102,7 @@ impl Progress<'_> {
         let Some(&w) = self.words.get(self.at) else {
             return Err(Refusal::WrongKind(self.at));
         };
-        let Some(kind) = Kind::of(w) else {
-            return Err(Refusal::WrongKind(self.at));
-        };
-        match kind {
+        match Kind::of(w) {
             Kind::SlowTransition | Kind::FastTransition => self.transition(index),
             Kind::End => {
                 end(self.words, self.at)?;
