@@ -21,6 +21,7 @@ use word::Refusal;
 mod subsystems;
 
 // The numbers of a report.
+// kept: (a) two lent arrays, as C hands them over.
 fn put_report(r: Report, values: &mut [u64; 9], powers: &mut [i32; 3])
     ensures values_after { values.new ≡ numbers_of (definition.values (granted (report_of r))) (marks_of r) }
     ensures powers_after { powers.new ≡ powers_of (definition.values (granted (report_of r))) }
@@ -43,7 +44,7 @@ fn put_report(r: Report, values: &mut [u64; 9], powers: &mut [i32; 3])
 }
 
 // The number of an answer, 0 for a report, and its numbers.
-// kept: numbers, as all that C is answered.
+// kept: (a) numbers, as all that C is answered.
 fn put_answer(a: Result<Report, Refusal>, values: &mut [u64; 9], powers: &mut [i32; 3]) -> u64
     ensures { AnswerPut a result values.new powers.new }
 {
@@ -105,6 +106,7 @@ pub extern "C" fn bounds_text(words: &[u32], budget: u64, text: &mut [u8; 256]) 
 
 // The words of some bytes, at the start of `words`, and how many there are: of more bytes than `words` has room for those of the first, which are
 // already more words than a model may have. The lent bytes are unchanged; what `words` holds behind its words is free.
+// `bytes_value` reads as nothing, and stays for the reader who looks for it.
 #[unsafe(no_mangle)]
 pub extern "C" fn bounds_words(bytes: &[u8], words: &mut [u32; WORDS_SIZE]) -> usize
     ensures spelled { Spelled (take most_bytes bytes.now) words.new result }
@@ -114,7 +116,7 @@ pub extern "C" fn bounds_words(bytes: &[u8], words: &mut [u32; WORDS_SIZE]) -> u
 }
 
 // What `bounds_at_or_below` answers where one of the two is no figure.
-// kept: a number, as all that C is answered.
+// kept: (a) a number, as all that C is answered.
 const NO_FIGURE: u64 = 2;
 
 // How a figure, given by its digits and its power of ten, compares with a limit: 1 if it is at or below the limit, 0 if it is above, 2 if one of

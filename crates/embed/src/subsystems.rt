@@ -9,6 +9,7 @@ use orprob::{MOST_PAIRS, OrRefusal, Pair};
 use std::array;
 
 // The pair with this index: its lower stands at twice that, its upper behind it.
+// kept: (a) C hands over the digits and the powers in two arrays.
 fn pair_given(digits: &[u64; 32], powers: &[i32; 32], i: usize) -> Pair
     requires { i < 16 }
     ensures { result ≡ definition.pair_given digits.now powers.now i }
@@ -33,6 +34,7 @@ pub(crate) fn pairs_given(digits: &[u64; 32], powers: &[i32; 32]) -> [Pair; MOST
 }
 
 // The number of an answer, 0 for two figures, and its numbers.
+// kept: (a) numbers, as all that C is answered.
 #[tactic(auto, unfolding(crate::specs::Subsystems::or_values))]
 pub(crate) fn put_combined(
     a: Result<Pair, OrRefusal>,

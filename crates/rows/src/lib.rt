@@ -17,6 +17,7 @@ pub fn fill_rows(rows: &mut [Row], table: &RowTable)
     requires { Fits table.now (length rows.old) }
     ensures { rows.new ≡ laid_over (rows_in table.now) rows.old }
 {
+    // kept: (c) by index, since of rows that an adapter of `iter_mut` lends nothing is known after the loop; tried
     for (i, state) in table.states[..table.count].iter().enumerate() {
         rows[i] = table.row(*state);
     }

@@ -29,6 +29,7 @@ impl Sums {
     };
 
     // With one death path more.
+    // kept: (d) two figures and no struct, here and in `note_death`: each goes to its own total, rounded its own way.
     fn with(self, lower: Figure, upper: Figure) -> Sums
         requires { SumsGathered 999999 self × Sized 9 35000 lower × Sized 9 35000 upper }
         ensures { TotalsWith lower upper self result }
@@ -41,6 +42,8 @@ impl Sums {
 }
 
 // The states that have rows are the first `count` of `states`. A mark is kept as long as nothing was lost that the report's figure rests on.
+// kept: (a) an array and a count, since the library allocates nothing.
+// kept: (d) two marks and no struct of both: each goes with its own figure, and a cut path asks for the upper's alone.
 #[derive(Drop)]
 pub struct RowTable {
     pub count: usize,
@@ -78,6 +81,7 @@ impl RowTable {
     }
 
     // One more death path that ends in the state s: in the report's totals and in those of its row.
+    // kept: (d) how many paths the table has gathered it does not count, so no type bounds its totals: the clause does, here and in `note_cut`.
     pub fn note_death(&mut self, s: usize, lower: Figure, upper: Figure)
         requires { (s ≤ 1000) × TableGathered 999999 self.old × Sized 9 35000 lower × Sized 9 35000 upper }
         ensures { DeathNoted s lower upper self.old self.new }
@@ -95,6 +99,7 @@ impl RowTable {
     }
 
     // Notes in the report's marks whether something more, that its lower or that its upper rests on, lost nothing.
+    // kept: (d) two marks, as the table has them: the two lines below write one each.
     #[tactic(auto, unfolding(crate::specs::Internal::Table::totals_in))]
     pub fn note_marks(&mut self, lower: bool, upper: bool)
         ensures { MarksNoted (record { lower = lower; upper = upper }) self.old self.new }

@@ -40,6 +40,7 @@ pub fn answer_text(a: Result<Report, Refusal>) -> Text
 }
 
 // The text of the answer to these words. The lent words are unchanged.
+// `words_value` reads as nothing, and stays for the reader who looks for it.
 pub fn words_text(words: &[u32], budget: u64) -> Text
     ensures holds { Holds (text_of words.now budget (answer words.now budget)) result }
     ensures rules { Rules words.now budget (answer words.now budget) }
@@ -54,6 +55,7 @@ pub fn answered(bytes: &[u8], budget: u64) -> Text
     ensures rules { Rules (words_of bytes.now) budget (answer (words_of bytes.now) budget) }
     ensures bytes_value { bytes.now ≡ bytes.now }
 {
+    // kept: (d) these lines stand in `program.rt` too; a function that takes a closure over the words is no shorter
     let mut words = [0; WORDS_SIZE];
     let n = words_of(bytes, &mut words);
     words_text(&words[..n], budget)

@@ -15,7 +15,7 @@ fn fill(bytes: &[u8], words: &mut [u32; WORDS_SIZE]) -> usize
     ensures { Spelled bytes.now words.new result }
 {
     let (wholes, rest) = bytes.as_chunks::<4>();
-    // kept: by index, since of words that an adapter of `iter_mut` lends nothing is known after the loop
+    // kept: (c) by index, since of words that an adapter of `iter_mut` lends nothing is known after the loop; tried in `fill_rows` of `rows`
     for (i, whole) in wholes.iter().enumerate() {
         words[i] = u32::from_le_bytes(*whole);
     }
@@ -29,7 +29,8 @@ fn fill(bytes: &[u8], words: &mut [u32; WORDS_SIZE]) -> usize
 
 // Puts the words of the bytes at the start of `words`, and answers how many there are. Of more than `BYTES_SIZE` bytes it takes the first `BYTES_SIZE`:
 // these are already more words than a model may have. The lent bytes are unchanged; what `words` holds behind its words is free.
-// kept: their number, and not a slice of them, since `bounds_words` hands it on to C.
+// kept: (d) their number: what `words` holds as a whole is promised too, and a slice lent out of it would hide that from the clause.
+// `bytes_value` reads as nothing, and stays for the reader who looks for it.
 pub fn words_of(bytes: &[u8], words: &mut [u32; WORDS_SIZE]) -> usize
     ensures spelled { Spelled (take most_bytes bytes.now) words.new result }
     ensures bytes_value { bytes.now ≡ bytes.now }

@@ -1,4 +1,4 @@
-// The report program's two turnings, bytes into words and an answer into text, and all that it does between reading and writing.
+// The report program's two conversions, bytes into words and an answer into text, and all that it does between reading and writing.
 #![tactic(auto)]
 
 ghost use Rattle.std.specs.Prelude.{ℕ, ◌≡◌, ◌≤◌, List, length, take};
@@ -11,7 +11,7 @@ pub mod program;
 mod writing;
 
 // Text in ASCII, at most as long as the longest answer. A clause sees the bytes that it has so far.
-// kept: an array and a length, since the library allocates nothing.
+// kept: (a) an array and a length, since the library allocates nothing.
 #[derive(Drop)]
 pub struct Text {
     bytes: [u8; 256],

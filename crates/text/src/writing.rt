@@ -1,5 +1,5 @@
 // Text that grows at its end. Each function hands back the text with something more behind it, and requires that there is room.
-// kept: each asks for the room of what it writes, since how much that is no type tells.
+// kept: (d) each asks for the room of what it writes, since how much that is no type tells.
 ghost use Rattle.std.specs.Prelude.{◌+◌, ◌%◌, ◌≡◌, List, ℕ, [], ◌∷◌, ◌++◌, pos, ◌+ℤ◌};
 ghost use Rattle.text.specs.Text.{digits_within, last_digits, signed_decimal, figure_text, line, decimal, figure_lines, count_lines, mark_digit, exact_line, refusal_text};
 ghost use Rattle.word.specs.Refusal.{number, place};
@@ -10,7 +10,7 @@ use figure::Figure;
 use word::Refusal;
 
 // What is written in one way at a text's end.
-// kept: not std's `Display`, which was tried. Of `write!` the text is known where it answers `Ok`, and nothing says that it does: `holds` of `words_text`,
+// kept: (c) not std's `Display`, which was tried. Of `write!` the text is known where it answers `Ok`, and nothing says that it does: `holds` of `words_text`,
 // `answered` and `report`, which is said of every call, would be lost.
 pub(crate) trait Written {
     // The bytes that it is written as.
@@ -130,7 +130,7 @@ impl Text {
     }
 
     // The decimal digits of n, `most` of them at most.
-    // kept: by recursion, as the definition is; a loop gives the last digit first, and needs a buffer to turn them round.
+    // kept: (d) by recursion, as the definition is; a loop gives the last digit first, and needs a buffer to turn them round.
     fn with_decimal(self, n: u64, most: usize) -> Self
         requires { Room self (digits_within most n) }
         ensures { result ≡ self ++ digits_within most n }
@@ -145,6 +145,7 @@ impl Text {
     }
 
     // The last k decimal digits of n.
+    // kept: (d) by recursion, as `with_decimal`.
     fn with_last(self, n: u64, k: usize) -> Self
         requires { Room self (last_digits k n) }
         ensures { result ≡ self ++ last_digits k n }
