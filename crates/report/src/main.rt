@@ -8,7 +8,7 @@ use std::io::Read;
 // Reads until the buffer is full or the input ends, and answers what was read.
 fn read_input<'a, R: Read>(from: &mut R, buffer: &'a mut [u8]) -> io::Result<&'a [u8]> {
     let mut len = 0;
-    // kept: a read may give any number of bytes, so that no range counts the turns
+    // kept: (d) a read may give any number of bytes; what falls is the room that is left
     while len < buffer.len() {
         let more = from.read(&mut buffer[len..])?;
         if more == 0 {
@@ -23,11 +23,11 @@ fn main(rt: HostRuntime) {
     let mut buffer = text::program::input();
     let Ok(bytes) = read_input(&mut rt.stdin(), &mut buffer) else {
         // where standard error fails too, nobody can be told
-        eprintln!(rt; "report: standard input could not be read").is_err();
+        let _ = eprintln!(rt; "report: standard input could not be read");
         return;
     };
     let answer = text::program::report(bytes);
     if rt.write_all(answer.as_slice()).is_err() {
-        eprintln!(rt; "report: the answer could not be written").is_err();
+        let _ = eprintln!(rt; "report: the answer could not be written");
     }
 }

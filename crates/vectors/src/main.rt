@@ -6,9 +6,10 @@ use std::io::Read;
 use text::bytes::BYTES_SIZE;
 
 // Reads until the buffer is full, the input ends or a read fails, and answers what was read.
+// kept: (d) `report` has the same loop: two programs with no crate of both; this one goes on with what was read where a read fails.
 fn read_full<'a, R: Read>(from: &mut R, buffer: &'a mut [u8]) -> &'a [u8] {
     let mut len = 0;
-    // kept: a read may give any number of bytes, so that no range counts the turns
+    // kept: (d) a read may give any number of bytes; what falls is the room that is left
     while len < buffer.len() {
         let more = from.read(&mut buffer[len..]).unwrap_or(0);
         if more == 0 {
@@ -28,7 +29,7 @@ fn next_bytes<'a, R: Read>(from: &mut R, n: u32, buffer: &'a mut [u8]) -> &'a [u
     read_full(from, &mut buffer[..n])
 }
 
-// Writes the name of the next model and the answer to it, and says whether there was one.
+// Writes the name of the next model and the answer to it, and says whether to go on.
 fn next_model<R: Read, P: Print>(from: &mut R, rt: &P) -> bool {
     let mut header = [[0; 4]; 3];
     if read_full(from, header.as_flattened_mut()).len() < 12 {
@@ -37,8 +38,7 @@ fn next_model<R: Read, P: Print>(from: &mut R, rt: &P) -> bool {
     let [name_size, model_size, budget] = header.map(u32::from_le_bytes);
     let mut name = [0; 64];
     // where the name cannot be written, neither can the answer, and that is told
-    rt.write_all(next_bytes(from, name_size, &mut name))
-        .is_err();
+    let _ = rt.write_all(next_bytes(from, name_size, &mut name));
     let mut model = [0; BYTES_SIZE];
     let bytes = next_bytes(from, model_size, &mut model);
     let answer = text::answers::answered(bytes, u64::from(budget));
