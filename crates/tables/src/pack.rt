@@ -2,9 +2,9 @@
 ghost use Rattle.std.specs.Prelude.{◌≡◌, ◌%◌, ◌<◌, ◌≤◌, pos, ◌+ℤ◌, ◌-ℤ◌};
 ghost use Rattle.std.specs.Int.Signed.{mag};
 ghost use Rattle.figure.specs.Operands.{Operand};
-ghost use Rattle.tables.specs.Internal.Tables.{counted, marked, mark_of, told_of, unpacked};
+ghost use Rattle.tables.specs.Internal.Tables.{counted, marked, mark_of, unpacked};
 
-use figure::{Figure, Rounded};
+use figure::{Arithmetic, Figure, Rounded};
 
 // Where the power begins, how many there are, and where the mark is.
 const POWER: u64 = 1 << 30;
@@ -17,8 +17,9 @@ const MARK: u64 = 1 << 51;
 const RAISED: i32 = 1 << 20;
 
 // A figure, or a number of grains, with its mark: whether no operation that it rests on lost anything.
-// kept: 64 bits and no struct of digits, power and mark: the table stands on the stack of a library that allocates nothing, and would be three times
+// kept: (a) 64 bits and no struct of digits, power and mark: the table stands on the stack of a library that allocates nothing, and would be three times
 // as large.
+// kept: (d) a count of grains has no type of its own, since it shares the mark's bit and its reading; a table's field says which it is
 #[derive(Clone, Copy)]
 pub struct Packed {
     bits: u64,
@@ -71,14 +72,11 @@ impl Packed {
         self.bits / MARK == 1
     }
 
-    // The figure with its mark.
-    pub fn rounded(self) -> Rounded
-        ensures { result ≡ told_of self }
+    // The figure with its mark, or the figure alone.
+    pub fn value<A: Arithmetic>(self) -> A
+        ensures { A.Is result (unpacked self) (marked self) }
     {
-        Rounded {
-            figure: self.figure(),
-            kept: self.is_kept(),
-        }
+        A::marked(self.figure(), self.is_kept())
     }
 }
 

@@ -138,11 +138,11 @@ fn step_at(model: Indexed, j: usize, time: Rounded, table: &Table) -> Step
 {
     let part = model.part(j);
     let state = table.states[from(word_at(part))];
-    let rate = state.rate.rounded();
+    let rate: Rounded = state.rate.value();
     match Manner::at(part) {
         Manner::Fast(exit) => class2_step(exit, rate, time),
         Manner::Slow(share) => {
-            let mean = state.mean_down.rounded();
+            let mean: Rounded = state.mean_down.value();
             if mean.figure.digits == 0 {
                 return Step {
                     share,
@@ -151,7 +151,7 @@ fn step_at(model: Indexed, j: usize, time: Rounded, table: &Table) -> Step
                     factor: Rounded::exact(Figure::zero()),
                 };
             }
-            class3_step(share, rate, mean, state.moment.rounded(), time)
+            class3_step(share, rate, mean, state.moment.value(), time)
         }
     }
 }
