@@ -7,7 +7,7 @@ use native.Mathlib.Numerals.{add-one}
 use native.Mathlib.Omega.{arith}
 use lib.Dec.{eqb, lit≤}
 use lib.IntN.{ℤ, pos, ◌+ℤ◌, ◌-ℤ◌, +ℤ_assoc, +ℤ_comm, -ℤ-+ℤ_cancel, +ℤ-neg_ℤ_cancel}
-use lib.Signed.{le_z}
+use lib.Signed.{le_z, mag}
 use borrow.Author.Tests.{eq-eqb, ne_eqb, eqb-true, eqb-false}
 use Rattle.fraction.specs.Fraction.{◌-ᶠ◌}
 use Rattle.fraction.proofs.Ratio.{◌≼◌, ◌≈◌, ofℕ, ◌⊗◌, ◌⊖◌, ≼_trans, ≈_refl, ≈_sym, ≈_trans, ≈_le, ⊖_cong, ⊖_nothing, ⊖_zero, ⊖_multiples}
@@ -157,16 +157,26 @@ module _ {a b : Figure} {g : ℕ} (o : Ordered 9 a b) (g-is : pos g ≡ a.power 
 -- ---- the code just below a figure
 
 module _ (to : Direction) {a : Figure} (s : Sized 9 200000 a) where
-  one_lower : {u : ℤ} → u ≡ stored a.power -ℤ pos 1 → stored u ≡ a.power -ℤ pos 1
-  one_lower e = ap stored (read_difference a.power (pos 1) (room tt s.near) (lit≤ tt) e)
-      ∙ kept (a.power -ℤ pos 1) (omega (arith, mag_difference a.power (pos 1), s.near))
+  -- its power, one lower, as the code stores it twice
+  one_lower : stored (stored (stored a.power -ℤ pos 1)) ≡ a.power -ℤ pos 1
+  one_lower = ap stored (once refl) ∙ kept (a.power -ℤ pos 1) (omega (arith, near))
+    where
+      near : mag (a.power -ℤ pos 1) ≤ 300000
+      near = omega (arith, mag_difference a.power (pos 1), s.near)
 
-  pub below_least : {u : ℤ} {r : Figure} → a.digits ≡ 10 ^ 8 → u ≡ stored a.power -ℤ pos 1 → r ≡ directed to 9 (parts 999999999 true) (stored u)
-      → r ≡ just_below to a
-  unfolding just_below
-  below_least z e f = f ∙ ap (directed to 9 (parts 999999999 true)) (one_lower e) ∙ sym (rw (eq-eqb a.digits (10 ^ 8) z, just_below))
+      once : {u : ℤ} → u ≡ stored a.power -ℤ pos 1 → stored u ≡ a.power -ℤ pos 1
+      once e = ap stored (read_difference a.power (pos 1) (room tt s.near) (lit≤ tt) e) ∙ kept (a.power -ℤ pos 1) (omega (arith, near))
 
-  pub below_more : {r : Figure} → (a.digits ≡ 10 ^ 8 → ⊥) → r ≡ directed to 9 (parts (a.digits - 1) true) (stored a.power) → r ≡ just_below to a
-  unfolding just_below
-  below_more n f = f ∙ ap (directed to 9 (parts (a.digits - 1) true)) (kept a.power (omega (arith, s.near)))
-      ∙ sym (rw (ne_eqb a.digits (10 ^ 8) n, just_below))
+  module _ {q : ℕ × ℤ} {r : Figure} (e : r ≡ directed to 9 (parts q.0 true) (stored q.1)) where
+    pub below_least : a.digits ≡ 10 ^ 8 → q ≡ (999999999, stored (stored a.power -ℤ pos 1)) → r ≡ just_below to a
+    unfolding just_below
+    below_least z f = e ∙ ap (λ p. directed to 9 (parts p.0 true) (stored p.1)) f ∙ ap (directed to 9 (parts 999999999 true)) one_lower
+        ∙ sym (rw (eq-eqb a.digits (10 ^ 8) z, just_below))
+
+    pub below_more : (a.digits ≡ 10 ^ 8 → ⊥) → q ≡ (a.digits - 1, stored a.power) → r ≡ just_below to a
+    unfolding just_below
+    below_more n f = e ∙ ap (λ p. directed to 9 (parts p.0 true) (stored p.1)) f ∙ ap (directed to 9 (parts (a.digits - 1) true)) power
+        ∙ sym (rw (ne_eqb a.digits (10 ^ 8) n, just_below))
+      where
+        power : stored (stored a.power) ≡ a.power
+        power = ap stored (kept a.power (omega (arith, s.near))) ∙ kept a.power (omega (arith, s.near))

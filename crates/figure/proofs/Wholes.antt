@@ -1,9 +1,8 @@
 -- The code's rounding of a whole number times a power of ten to nine digits is the one that is meant. Assumes nothing.
 use mathlib.Core.Path.{◌≡◌, sym, ◌∙◌, ap, ap₂}
-use Prim.Native.Nat.{ℕ, ◌+◌, ◌-◌, ◌*◌, ◌/◌, ◌^◌, ◌≤◌, ◌<◌}
-use native.Mathlib.Nat.{mul-le-mul_right, mul-lt-mul_of_pos_right, div-lt_iff_lt-mul}
+use Prim.Native.Nat.{ℕ, ◌+◌, ◌-◌, ◌*◌, ◌^◌, ◌≤◌, ◌<◌}
+use native.Mathlib.Nat.{mul-le-mul_right, mul-lt-mul_of_pos_right}
 use native.Mathlib.Omega.{arith}
-use lib.Dec.{lit≤}
 use lib.IntN.{ℤ, pos, neg_ℤ, ◌+ℤ◌, ◌-ℤ◌, +ℤ_idl}
 use lib.Pow.{pow-add}
 use lib.Signed.{mag}
@@ -14,7 +13,7 @@ use Rattle.figure.specs.declared.Figure.{Figure}
 use Rattle.figure.specs.declared.Direction.{Direction}
 use Rattle.figure.specs.declared.division.Part.{Part}
 use Rattle.figure.specs.Rounding.{figure, none, value, is_whole}
-use Rattle.figure.specs.Internal.Steps.{rounded, part, directed, Count}
+use Rattle.figure.specs.Internal.Steps.{rounded, part, directed}
 use Rattle.figure.proofs.Scale.{pow_pos, ten_units, ten_shift}
 use Rattle.figure.proofs.Value.{value_is}
 use Rattle.figure.proofs.Exact.{over_ten}
@@ -25,11 +24,18 @@ use Rattle.figure.proofs.Figures.{zero_num, rounded_own, rounded_zero, rounded_s
 
 -- ---- the number of digits
 
-pub more_digits : {n r : ℕ} → Count 10 (n / 10 ^ 10) r → Count 20 n (10 + r)
-more_digits {n} {r} d = record {
-  below = rw (pow-add 10 10 r) (omega (arith, (div-lt_iff_lt-mul {k = 10 ^ 10} {x = n} (lit≤ tt)).0 d.below));
-  reached = rw (pow-add 10 10 r) (omega (arith, d.reached));
-  most = omega (arith, d.most);
+-- r, at most 20, is the number of digits of n
+pub record Count (n r : ℕ) : Type 0 where
+  pub below : n < 10 ^ r
+  pub reached : 10 ^ r ≤ 10 * n
+  pub most : r ≤ 20
+
+-- one more than its logarithm
+pub digits_counted : {n l : ℕ} → 10 ^ l ≤ n → n < 10 * 10 ^ l → l < 20 → Count n (l + 1)
+digits_counted {n} {l} low high most = record {
+  below = rw (pow-add 10 l 1) (omega (arith, high));
+  reached = rw (pow-add 10 l 1) (omega (arith, low));
+  most = omega arith;
 }
 
 -- ---- the code's, of n times 10^e
@@ -38,7 +44,7 @@ pub nothing_rounded : (to : Direction) (n : ℕ) (e : ℤ) → n ≡ 0 → none 
 nothing_rounded to n e z = sym (ap (rounded to 9) (value_is (figure n e)) ∙ rounded_zero to 9 _ (zero_num (figure n e) z))
 
 -- at most nine digits: zeros are put behind
-module _ {n r t : ℕ} (d : Count 20 n r) (h : r ≤ 9) (t-is : t ≡ 10 ^ (9 - r)) where
+module _ {n r t : ℕ} (d : Count n r) (h : r ≤ 9) (t-is : t ≡ 10 ^ (9 - r)) where
   short_power : 10 ^ r * 10 ^ (9 - r) ≡ 10 ^ 9
   short_power = let e : r + (9 - r) ≡ 9 = omega arith in sym (pow-add 10 r (9 - r)) ∙ ap (λ m. 10 ^ m) e
 
@@ -47,6 +53,9 @@ module _ {n r t : ℕ} (d : Count 20 n r) (h : r ≤ 9) (t-is : t ≡ 10 ^ (9 - 
 
   high : n * 10 ^ (9 - r) < 10 ^ 9
   high = omega (arith, mul-lt-mul_of_pos_right d.below (pow_pos (9 - r)), short_power)
+
+  pub padded_below : n * t < 10 ^ 9
+  padded_below = rw t-is high
 
   module _ (e : ℤ) (he : mag e ≤ 200000) {z : ℤ} (z-is : z ≡ pos (9 - r)) where
     zeros_near : mag z ≤ 9
@@ -64,7 +73,7 @@ module _ {n r t : ℕ} (d : Count 20 n r) (h : r ≤ 9) (t-is : t ≡ 10 ^ (9 - 
             ∙ kept (e -ℤ z) (omega (arith, mag_difference e z, zeros_near)) ∙ ap (λ y. e -ℤ y) z-is
 
 -- more than nine: the last are divided off
-module _ {n r t : ℕ} (d : Count 20 n r) (h : 9 < r) (t-is : t ≡ 10 ^ (r - 9)) where
+module _ {n r t : ℕ} (d : Count n r) (h : 9 < r) (t-is : t ≡ 10 ^ (r - 9)) where
   long_power : 10 ^ 9 * 10 ^ (r - 9) ≡ 10 ^ r
   long_power = let e : 9 + (r - 9) ≡ r = omega arith in sym (pow-add 10 9 (r - 9)) ∙ ap (λ m. 10 ^ m) e
 

@@ -13,10 +13,7 @@ pub(crate) fn minus(to: Direction, a: Figure, b: Figure) -> Figure
     requires { Operand 9 a × Operand 9 b }
     ensures { result ≡ rounded to 9 (value a -ᶠ value b) }
 {
-    if b.digits == 0 {
-        return a;
-    }
-    if a.digits == 0 {
+    if a.digits == 0 || b.digits == 0 {
         return a;
     }
     if b.power <= a.power {
@@ -47,16 +44,11 @@ fn lessened(to: Direction, a: Figure) -> Figure
     requires { Sized 9 200000 a × (0 < a.digits) }
     ensures { result ≡ just_below to a }
 {
-    if a.digits == 100_000_000 {
-        let part = Part {
-            whole: 999_999_999,
-            rest: true,
-        };
-        return part.directed(to, Width::Nine, a.power - 1);
-    }
-    let part = Part {
-        whole: a.digits - 1,
-        rest: true,
+    let (whole, power) = if a.digits == 100_000_000 {
+        (999_999_999, a.power - 1)
+    } else {
+        (a.digits - 1, a.power)
     };
-    part.directed(to, Width::Nine, a.power)
+    let part = Part { whole, rest: true };
+    part.directed(to, Width::Nine, power)
 }

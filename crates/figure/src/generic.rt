@@ -22,6 +22,7 @@ pub trait Arithmetic: Copy {
     ghost Is: { Self → Figure → Bool → Type 0 };
 
     // A figure with the mark that it has so far.
+    // kept: (d) here and below, `figure_value` follows from `mark_value` by the two laws at the end: so a caller who needs the figure alone cites no law.
     fn marked(figure: Figure, kept: bool) -> Self
         ensures figure_value { figure_of result ≡ figure }
         ensures mark_value { Is result figure kept };
@@ -38,6 +39,7 @@ pub trait Arithmetic: Copy {
         ensures figure_value { figure_of result ≡ ops.of_whole n }
         ensures mark_value { Is result (ops.of_whole n) (losses.whole_keeps n) };
 
+    // kept: (d) nothing here calls it: the crates above read quantities as figures alone; but each operation is to tell whether anything was lost.
     fn of_quantity(c: u32, p: u32) -> Self
         requires { p ≤ 255 }
         ensures figure_value { figure_of result ≡ ops.of_quantity c p }
@@ -93,6 +95,7 @@ pub trait Arithmetic: Copy {
     ghost tells: { (x : Self) → (k : Bool) × Is x (figure_of x) k };
 }
 
+// kept: (d) a `Figure` has these methods itself, so that callers of one need not bring in the trait; they hand on to them.
 impl Arithmetic for Figure {
     ghost figure_of = { λ x. x };
 

@@ -1,6 +1,6 @@
-// Figures: nine digits and a power of ten, every operation rounded once, in the direction that it is given. Totals have the same form with eighteen digits. Each
-// operation is there for figures alone, and for figures that tell whether anything was lost: these round both ways, and nothing is lost exactly if both come to
-// the same figure.
+// Figures: nine digits and a power of ten, every operation rounded once, in the direction that it is given. Totals have the same form with eighteen digits.
+// Each operation is there for figures alone, and for figures that tell whether anything was lost: these round both ways, and nothing is lost exactly if both
+// come to the same figure.
 #![tactic(auto)]
 
 ghost use Rattle.std.specs.Prelude.{◌≡◌, ◌≤◌, ◌<◌};
@@ -26,7 +26,8 @@ mod whole;
 use division::Width;
 pub use generic::Arithmetic;
 
-// kept: its fields are free, and each operation asks for an `Operand`: a caller through C hands over any digits and any power, and `is_figure` is the test.
+// kept: (a) its fields are free, and each operation asks for an `Operand`, or for the width `Sized` that its own sum needs: a caller through C hands over any
+// digits and any power, and `is_figure` is the test.
 #[repr(C)]
 #[derive(Clone, Copy, PartialEq, Eq)]
 pub struct Figure {
@@ -52,7 +53,7 @@ impl Direction {
     }
 }
 
-// A figure that something was rounded to, and whether nothing was lost.
+// A figure that something was rounded to, and whether nothing was lost. The figure counts either way, so no Option.
 #[derive(Clone, Copy)]
 pub struct Rounded {
     pub figure: Figure,
@@ -87,7 +88,7 @@ impl Figure {
         whole::fitted(Direction::Down, n, 0)
     }
 
-    // The quantity c / 10^p of a word table, exactly.
+    // The quantity c / 10^p, rounded up; exact up to nine digits, as a word table's is.
     pub fn of_quantity(c: u32, p: u32) -> Figure
         requires { p ≤ 255 }
         ensures { result ≡ ops.of_quantity c p }
@@ -95,6 +96,7 @@ impl Figure {
         whole::fitted(Direction::Up, u64::from(c), -(p as i32))
     }
 
+    // kept: (d) what the methods promise stands here together; the file of each operation has its steps and the helpers that it alone needs.
     // The product, rounded as `to` says.
     pub fn times(self, other: Figure, to: Direction) -> Figure
         requires { Operand 9 self × Operand 9 other }
@@ -126,6 +128,7 @@ impl Figure {
     }
 
     // A total of eighteen digits, with a figure of nine added.
+    // kept: (d) a total is a figure of eighteen digits: `value`, sums and roundings are one definition over both widths; a type for it would unwrap at each.
     pub fn total(self, a: Figure, to: Direction) -> Figure
         requires { Operand 18 self × Operand 9 a }
         ensures { result ≡ ops.total to self a }
@@ -171,7 +174,7 @@ impl Figure {
         ceiling::ceiling(self)
     }
 
-    // kept: no derived order, since zero, held with power 0, is below every other figure.
+    // kept: (d) no derived order, since zero, held with power 0, is below every other figure; an `Ord` by hand would be these lines and the proofs of its laws.
     pub fn at_or_below(self, other: Figure) -> bool
         requires { IsFigure 9 self × IsFigure 9 other }
         ensures { result ≡ ops.at_or_below self other }

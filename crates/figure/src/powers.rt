@@ -2,7 +2,7 @@
 ghost use Rattle.std.specs.Prelude.{◌≡◌, ◌^◌, ◌<◌};
 
 // Ten to the power k.
-// kept: in arms, for speed: a constant table was written to the stack anew at each call, which took a good quarter of the walk's instructions.
+// kept: (b) in arms, for speed: a constant table was written to the stack anew at each call, which took a good quarter of the walk's instructions.
 pub(crate) fn ten_to(k: usize) -> u64
     requires { k < 20 }
     ensures { result ≡ 10 ^ k }

@@ -88,12 +88,6 @@ pub record Padding (a b k : ℕ) : Type 0 where
   pub low : 10 ^ 8 * b ≤ a * 10 ^ k
   pub high : a * 10 ^ k < 10 ^ 9 * b
 
--- r, at most m, is the number of digits of n
-pub record Count (m n r : ℕ) : Type 0 where
-  pub below : n < 10 ^ r
-  pub reached : 10 ^ r ≤ 10 * n
-  pub most : r ≤ m
-
 -- a figure of nine digits less something above zero and below a tenth of its last digit
 unfoldable pub just_below : Direction → Figure → Figure
 just_below to a = elim (eqb a.digits (10 ^ 8)) [
