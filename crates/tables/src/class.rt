@@ -18,13 +18,11 @@ impl Class {
     pub fn of(fast: bool, mean: Figure) -> Class
         ensures { class_for result ≡ class_by fast mean.digits }
     {
-        if fast {
-            return Class::Class2;
+        match (fast, mean.digits) {
+            (true, _) => Class::Class2,
+            (false, 0) => Class::Class1,
+            (false, _) => Class::Class3,
         }
-        if mean.digits == 0 {
-            return Class::Class1;
-        }
-        Class::Class3
     }
 
     pub fn is_class1(self) -> bool

@@ -9,7 +9,7 @@ use figure::{Arithmetic, Figure, Rounded};
 use word::Quantity;
 use word::fields::quantity_at;
 
-// kept: a function and no `From`, since neither of the two types is of this crate.
+// kept: (d) a function and no `From`, since neither of the two types is of this crate.
 pub fn figure_of(q: Quantity) -> Figure
     requires { q.scale ≤ 255 }
     ensures { result ≡ states.figure_of q }

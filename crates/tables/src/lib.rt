@@ -30,6 +30,7 @@ pub fn transition_count(index: &Index, states: usize) -> usize
     requires { states ≤ 1000 }
     ensures { result ≡ exit_total index.now states }
 {
+    // kept: (c) `(1..=states).map(..).sum()` was tried: two goals on the run of the range stay open
     let mut total = 0;
     for s in 1..=states {
         total += index.exit_count(s);

@@ -20,14 +20,12 @@ const RAISED: i32 = 1 << 20;
 // kept: (a) 64 bits and no struct of digits, power and mark: the table stands on the stack of a library that allocates nothing, and would be three times
 // as large.
 // kept: (d) a count of grains has no type of its own, since it shares the mark's bit and its reading; a table's field says which it is
-#[derive(Clone, Copy)]
+#[derive(Clone, Copy, Default)]
 pub struct Packed {
     bits: u64,
 }
 
 impl Packed {
-    pub(crate) const EMPTY: Packed = Packed { bits: 0 };
-
     // A figure that tells, with its mark.
     pub(crate) fn of(x: Rounded) -> Packed
         requires { Operand 9 x.figure }

@@ -18,6 +18,7 @@ use figure::{Arithmetic, Direction, Figure, Rounded};
 use word::fields::{from, word_at};
 
 // An exit's rate or probability, its grains with their mark, and its factor in a lower with its own.
+// kept: (d) `grains_kept` beside `grains` is a mark, which says whether anything was lost, and not a flag that says whether the value is there
 #[derive(Clone, Copy)]
 struct Step {
     pub share: Rounded,
@@ -39,6 +40,8 @@ impl Step {
         }
     }
 }
+
+// kept: (d) each formula asks for the widths that its own operations need; no type of an operand has one width for all
 
 // What class 2 takes off 1, of E, the mean, M, T2 and n grains.
 fn class2_loss(rate: Rounded, mean: Rounded, moment: Rounded, time2: Rounded, n: u64) -> Rounded

@@ -6,7 +6,7 @@ ghost use Rattle.tables.specs.Internal.Tables.{no_entries};
 use crate::pack::Packed;
 
 // E, h rounded up, h rounded down (h') and H of a state.
-#[derive(Clone, Copy)]
+#[derive(Clone, Copy, Default)]
 pub struct StateEntry {
     pub rate: Packed,
     pub mean_up: Packed,
@@ -15,7 +15,7 @@ pub struct StateEntry {
 }
 
 // The rate or the probability of a transition, its factor in a lower, and its grains.
-#[derive(Clone, Copy)]
+#[derive(Clone, Copy, Default)]
 pub struct StepEntry {
     pub share: Packed,
     pub factor: Packed,
@@ -34,20 +34,9 @@ impl Table {
     pub fn empty() -> Table
         ensures { result ≡ no_entries }
     {
-        let state = StateEntry {
-            rate: Packed::EMPTY,
-            mean_up: Packed::EMPTY,
-            mean_down: Packed::EMPTY,
-            moment: Packed::EMPTY,
-        };
-        let step = StepEntry {
-            share: Packed::EMPTY,
-            factor: Packed::EMPTY,
-            grains: Packed::EMPTY,
-        };
         Table {
-            states: [state; 1001],
-            steps: [step; 4000],
+            states: [StateEntry::default(); 1001],
+            steps: [StepEntry::default(); 4000],
         }
     }
 }
