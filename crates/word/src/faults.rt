@@ -22,52 +22,60 @@ pub fn ensure(holds: bool, or_else: Refusal) -> Result<(), Refusal>
 }
 
 // The part's first word, which must be of this kind.
-fn first(part: &[u32], at: usize, kind: Kind) -> Result<u32, Refusal>
-    ensures { FirstOfKind kind at part.now result }
+// kept: (d) the place only goes into the refusal; a struct of the part and its place would carry one fact for four tests.
+fn first(part: &[u32], place: usize, kind: Kind) -> Result<u32, Refusal>
+    ensures { FirstOfKind kind place part.now result }
 {
     match part.first() {
         Some(&w) if kind.is_of(w) => Ok(w),
-        _ => Err(Refusal::WrongKind(at)),
+        _ => Err(Refusal::WrongKind(place)),
     }
 }
 
-pub fn head(part: &[u32], at: usize) -> Result<(), Refusal>
-    ensures fault { answer result ≡ word_answer faults.head_faults at part.now }
+pub fn head(part: &[u32], place: usize) -> Result<(), Refusal>
+    ensures fault { answer result ≡ word_answer faults.head_faults place part.now }
     ensures inside { OnOk result (0 < length part.now) }
 {
-    let w = first(part, at, Kind::Head)?;
-    ensure(edition(w) == 1, Refusal::FieldOutOfRange(at))?;
+    let w = first(part, place, Kind::Head)?;
+    ensure(edition(w) == 1, Refusal::FieldOutOfRange(place))?;
     let n = states(w);
-    ensure((1..=1000).contains(&n), Refusal::FieldOutOfRange(at))?;
-    ensure((1..=n).contains(&start(w)), Refusal::FieldOutOfRange(at))
+    ensure((1..=1000).contains(&n), Refusal::FieldOutOfRange(place))?;
+    ensure((1..=n).contains(&start(w)), Refusal::FieldOutOfRange(place))
 }
 
 // A quantity of this kind: its scale is at most `most`, its coefficient from `least` to 999,999.
-pub fn quantity(part: &[u32], at: usize, kind: Kind, most: u32, least: usize) -> Result<(), Refusal>
-    ensures fault { answer result ≡ word_answer (faults.quantity_faults (kind_number kind) most least) at part.now }
+// kept: (d) the six pairs of `most` and `least` stand at their calls, as the documents have them.
+pub fn quantity(
+    part: &[u32],
+    place: usize,
+    kind: Kind,
+    most: u32,
+    least: usize,
+) -> Result<(), Refusal>
+    ensures fault { answer result ≡ word_answer (faults.quantity_faults (kind_number kind) most least) place part.now }
     ensures inside { OnOk result (0 < length part.now) }
 {
-    let w = first(part, at, kind)?;
+    let w = first(part, place, kind)?;
     let c = coefficient(w) as usize;
     let fits = scale(w) <= most && (least..=999_999).contains(&c);
-    ensure(fits, Refusal::QuantityOutOfRange(at))
+    ensure(fits, Refusal::QuantityOutOfRange(place))
 }
 
-pub fn caps(part: &[u32], at: usize) -> Result<(), Refusal>
-    ensures fault { answer result ≡ word_answer faults.caps_faults at part.now }
+pub fn caps(part: &[u32], place: usize) -> Result<(), Refusal>
+    ensures fault { answer result ≡ word_answer faults.caps_faults place part.now }
     ensures inside { OnOk result (0 < length part.now) }
 {
-    let w = first(part, at, Kind::Caps)?;
-    ensure(caps_rest(w) == 0, Refusal::BitSet(at))?;
+    let w = first(part, place, Kind::Caps)?;
+    ensure(caps_rest(w) == 0, Refusal::BitSet(place))?;
     let l = step_limit(w);
-    ensure((1..=24).contains(&l), Refusal::FieldOutOfRange(at))?;
+    ensure((1..=24).contains(&l), Refusal::FieldOutOfRange(place))?;
     let v = entry_limit(w);
-    ensure((1..=24).contains(&v), Refusal::FieldOutOfRange(at))
+    ensure((1..=24).contains(&v), Refusal::FieldOutOfRange(place))
 }
 
 // The tests of a word w that names a generator's state, whose kind is known and which stands at `place`: `last` is the state named before, 0 if there is
 // none, and `count` says how many were named.
-// kept: (d) no state is 0, so `last < s` is the test for the first word too; an Option would need a case more
+// kept: (d) no state is 0, and the definition named_faults counts from 0 too, so 0 stands for none without a test.
 pub fn named(w: u32, place: usize, states: usize, last: usize, count: usize) -> Result<(), Refusal>
     ensures { answer result ≡ first_fault (faults.named_faults states last count w) place }
 {
@@ -91,12 +99,12 @@ pub fn transition(w: u32, place: usize, states: usize) -> Result<(), Refusal>
 }
 
 // The end's word, whose kind is known: no other bit is set.
-pub fn end(part: &[u32], at: usize) -> Result<(), Refusal>
-    ensures fault { answer result ≡ word_answer faults.end_faults at part.now }
+pub fn end(part: &[u32], place: usize) -> Result<(), Refusal>
+    ensures fault { answer result ≡ word_answer faults.end_faults place part.now }
     ensures inside { OnOk result (0 < length part.now) }
 {
     let Some(&w) = part.first() else {
-        return Err(Refusal::WrongKind(at));
+        return Err(Refusal::WrongKind(place));
     };
-    ensure(end_rest(w) == 0, Refusal::BitSet(at))
+    ensure(end_rest(w) == 0, Refusal::BitSet(place))
 }

@@ -38,6 +38,7 @@ pub fn kind(w: u32) -> u32
 
 // ---- the head
 
+// kept: (d) here and below, each field is one call of `bits`; a struct round a word would have to be put round each u32 that the caller's slice holds.
 pub fn edition(w: u32) -> u32
     ensures { result ≡ fields.edition_field w }
 {

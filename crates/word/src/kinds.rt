@@ -27,6 +27,7 @@ pub enum Kind {
 
 impl Kind {
     // The kind of the word w.
+    // kept: (d) no `From<u32>`: it takes the whole word, of which the kind is four bits.
     pub fn of(w: u32) -> Kind
         ensures number { kinds.kind_number result ≡ fields.kind w }
         ensures other { (n : ℕ) → result ≡ Other n → kinds.IsUnnamed n }
