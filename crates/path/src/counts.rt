@@ -18,8 +18,7 @@ impl Counts {
     {
         Counts {
             deaths: self.deaths + 1,
-            steps: self.steps + 1,
-            ..self
+            ..self.with_step()
         }
     }
 
@@ -30,8 +29,7 @@ impl Counts {
     {
         Counts {
             cuts: self.cuts + 1,
-            steps: self.steps + 1,
-            ..self
+            ..self.with_step()
         }
     }
 

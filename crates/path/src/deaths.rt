@@ -51,9 +51,9 @@ pub(crate) fn stem_of<A: Arithmetic>(
     let rest = A::exact(Figure::of_whole(1_000_000 - spent.grains));
     let time = mission
         .times(rest, Direction::Down)
-        .times_ten(0 - 6)
+        .times_ten(-6)
         .figure();
-    let above = mission.times(rest, Direction::Up).times_ten(0 - 6);
+    let above = mission.times(rest, Direction::Up).times_ten(-6);
     Some(Stem {
         time,
         product: product(prepared, path, time),

@@ -1,7 +1,6 @@
 // What becomes of a path after a step.
 ghost use Rattle.std.specs.Prelude.{◌≤◌, ◌≡◌};
 ghost use Rattle.figure.specs.Rounding.{IsFigure};
-ghost use Rattle.tree.specs.Tree as tree;
 ghost use Rattle.path.specs.Internal.Outcomes.{named_end, judged, outcome_of};
 
 use figure::Figure;
@@ -56,18 +55,4 @@ pub fn judge(
         return Outcome::LowLevel;
     }
     Outcome::Continued
-}
-
-impl Outcome {
-    pub fn is_death(self) -> bool
-        ensures { result ≡ tree.is_death (outcome_of self) }
-    {
-        self == Outcome::Death
-    }
-
-    pub fn is_continued(self) -> bool
-        ensures { result ≡ tree.is_continued (outcome_of self) }
-    {
-        self == Outcome::Continued
-    }
 }

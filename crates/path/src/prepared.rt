@@ -40,7 +40,7 @@ impl Prepared<'_> {
     ghost use Rattle.tables.specs.Internal.Tables.{step_factor, step_factor_kept};
     ghost use Rattle.path.specs.Internal.Paths.{own_grains, step_class};
 
-    // Those of the transition j.
+    // The class and the state that the transition j leaves.
     pub(crate) fn leaving(&self, j: usize) -> Leaving
         requires { j < length (net_of self.now.words.now).table }
         ensures class_value { class_for result.class ≡ step_class (net_of self.now.words.now) j }
