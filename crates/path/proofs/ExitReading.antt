@@ -1,9 +1,10 @@
 -- An exit of the tip's state as the code reads it: by its word and the table. Assumes nothing.
-use Prim.Native.Nat.{ℕ, ◌≤◌}
+use Prim.Native.Nat.{ℕ, ◌≤◌, ◌<◌}
 use mathlib.Core.Path.{◌≡◌, refl, sym, ap, ◌∙◌}
 use mathlib.Core.Bool.{Bool}
 use native.Mathlib.Omega.{arith}
 use lib.Dec.{eqb, lit≤}
+use lib.ListN.{length}
 use Rattle.figure.specs.declared.Figure.{Figure}
 use Rattle.figure.specs.Operands.{Sized}
 use Rattle.figure.proofs.Sized.{sized-≤}
@@ -18,7 +19,7 @@ use Rattle.tree.specs.Upper.{share}
 use Rattle.tree.proofs.Ranges.{share_sized, mean_up_sized, mission_time_sized}
 use Rattle.tables.specs.declared.class.Class.{Class as Coded}
 use Rattle.tables.specs.Internal.Classes.{class_for, class_by}
-use Rattle.tables.specs.Internal.Tables.{share_in, mean_up_in}
+use Rattle.tables.specs.Internal.Tables.{mean_up_in}
 use Rattle.tables.proofs.Classes.{step_valid, origin_small, class_read}
 use Rattle.path.specs.declared.exits.Tip.{Tip}
 use Rattle.path.specs.Internal.Lent.{Lent, Filled, model_in, net_in}
@@ -50,9 +51,12 @@ module _ {l : Lent} {time : Figure} (filled : Filled l) (time_is : time ≡ miss
 
   -- j is the exit's index
   module _ {j : ℕ} (j-is : j ≡ x) where
-    module _ {s : Figure} (s-is : s ≡ share_in l.table j) where
+    pub exit_inside : j < length (net_in l).table
+    exit_inside = rw j-is h.index
+
+    module _ {s : Figure} (s-is : s ≡ share (transition (net_in l) j).manner) where
       share_is : s ≡ share exit.manner
-      share_is = s-is ∙ ap (share_in l.table) j-is ∙ filled.tabled.steps.shares x h.index
+      share_is = rw j-is at s-is
 
       pub exit_share_sized : Sized 9 1000 s
       exit_share_sized = rw share_is (sized-≤ (lit≤ tt) (share_sized exit.manner (step_valid valid h.index).manner))
@@ -68,7 +72,7 @@ module _ {l : Lent} {time : Figure} (filled : Filled l) (time_is : time ≡ miss
           → b ≡ eqb (kind w) 7
           → class_for a ≡ class_by b m.digits
           → to ≡ to_field w
-          → s ≡ share_in l.table j
+          → s ≡ share (transition (net_in l) j).manner
           → m ≡ mean_up_in l.table tip.state
           → next ≡ tip_by tip (class_for a) to s m time
           → ExitOf l tip x (record { index = k; class = a; tip = next })

@@ -72,7 +72,7 @@ fn new_stem(prepared: &Prepared, path: &[u16], tip: Tip, exit: Exit) -> Option<S
     if exit.class.is_class1() {
         spent.rates = spent
             .rates
-            .plus(prepared.rate_sum(j, tip.state), Direction::Up);
+            .plus(prepared.rate_sum(tip.state), Direction::Up);
         spent.ones += 1;
     } else {
         spent.grains += prepared.grains(j);

@@ -53,30 +53,8 @@ pub(crate) fn further<A: Arithmetic>(
     }
 }
 
-// The tip one step further; nth is the number of its next class 1 step.
-fn next_tip(
-    tip: Tip,
-    nth: Figure,
-    class: Class,
-    to: usize,
-    share: Figure,
-    mean: Figure,
-    time: Figure,
-) -> Tip
-    requires sized { Sized 9 20000 tip.upper × Sized 9 1000 share × Sized 9 1000 mean × Sized 9 1000 time × (tip.ones < 24) × (tip.len < 24) }
-    requires nth_value { nth ≡ ops.of_whole (tip.ones + 1) }
-    ensures { result ≡ tip_by tip (class_for class) to share mean time }
-{
-    let upper = further(class, nth, tip.upper, share, mean, time);
-    Tip {
-        state: to,
-        upper,
-        ones: class.counts_1() + tip.ones,
-        len: tip.len + 1,
-    }
-}
-
 // The exit of the tip's state that is transition x: its kind and its target stand in its word; nth is the number of the next class 1 step.
+// kept: (d) nth beside the tip: worked out once for all exits of a state; a struct of both would be one more in six contracts.
 pub fn exit_at(prepared: &Prepared, tip: Tip, nth: Figure, x: u16) -> Exit
     requires { ExitReady (lent_by prepared.now) tip x × (nth ≡ ops.of_whole (tip.ones + 1)) }
     ensures { ExitOf (lent_by prepared.now) tip x result }
@@ -85,11 +63,15 @@ pub fn exit_at(prepared: &Prepared, tip: Tip, nth: Figure, x: u16) -> Exit
     let w = prepared.index.word_of(prepared.words, j);
     let mean = prepared.table.states[tip.state].mean_up.figure();
     let class = Class::of(is_fast(w), mean);
-    let share = prepared.table.steps[j].share.figure();
-    let next = next_tip(tip, nth, class, to(w), share, mean, prepared.time);
+    let share: Figure = prepared.share(j);
     Exit {
         index: x,
         class,
-        tip: next,
+        tip: Tip {
+            state: to(w),
+            upper: further(class, nth, tip.upper, share, mean, prepared.time),
+            ones: class.counts_1() + tip.ones,
+            len: tip.len + 1,
+        },
     }
 }

@@ -35,7 +35,7 @@ pub(crate) fn spent_on<A: Arithmetic>(prepared: &Prepared, path: &[u16]) -> Spen
         let j = usize::from(x);
         let step = prepared.leaving(j);
         if step.class.is_class1() {
-            rates = rates.plus(prepared.rate_sum(j, step.state), Direction::Up);
+            rates = rates.plus(prepared.rate_sum(step.state), Direction::Up);
             ones += 1;
         } else {
             grains += prepared.grains(j);

@@ -24,7 +24,7 @@ pub fn upper_kept(prepared: &Prepared, path: &[u16]) -> bool
         let step = prepared.leaving(j);
         let nth = Rounded::exact(Figure::of_whole(ones + 1));
         let share = prepared.share(j);
-        let mean = prepared.mean_up(j, step.state);
+        let mean = prepared.mean_up(step.state);
         upper = further(step.class, nth, upper, share, mean, time);
         ones += step.class.counts_1();
     }

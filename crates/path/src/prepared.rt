@@ -2,7 +2,7 @@
 ghost use Rattle.std.specs.Prelude.{◌≡◌};
 ghost use Rattle.std.proofs.Props.{props};
 ghost use Rattle.tree.specs.States.{mission_time};
-ghost use Rattle.tables.specs.Internal.Described.{net_of};
+ghost use Rattle.tables.specs.Internal.Described.{described, net_of};
 ghost use Rattle.path.specs.Internal.Lent.{Filled, lent};
 ghost use Rattle.tables.specs.Internal.Facts.{indexes_prop};
 
@@ -41,6 +41,7 @@ impl Prepared<'_> {
     ghost use Rattle.path.specs.Internal.Paths.{own_grains, step_class};
 
     // The class and the state that the transition j leaves.
+    // kept: (d) j < length table: how many transitions there are is the model's: no type of an index alone says it, and `Known` carries it for a path's entries.
     pub(crate) fn leaving(&self, j: usize) -> Leaving
         requires { j < length (net_of self.now.words.now).table }
         ensures class_value { class_for result.class ≡ step_class (net_of self.now.words.now) j }
@@ -85,19 +86,19 @@ impl Prepared<'_> {
         self.table.steps[j].grains.is_kept()
     }
 
-    // E of the state that it leaves.
-    pub(crate) fn rate_sum<A: Arithmetic>(&self, j: usize, state: usize) -> A
-        requires { (j < length (net_of self.now.words.now).table) × (state ≡ (transition (net_of self.now.words.now) j).from) }
-        ensures { A.Is result (states.rate_sum (net_of self.now.words.now) (transition (net_of self.now.words.now) j).from) (marks.rate_sum_kept (net_of self.now.words.now) (transition (net_of self.now.words.now) j).from) }
+    // E of a state.
+    pub(crate) fn rate_sum<A: Arithmetic>(&self, state: usize) -> A
+        requires { (1 ≤ state) × (state ≤ (described self.now.words.now).states) }
+        ensures { A.Is result (states.rate_sum (net_of self.now.words.now) state) (marks.rate_sum_kept (net_of self.now.words.now) state) }
     {
         let rate = self.table.states[state].rate;
         A::marked(rate.figure(), rate.is_kept())
     }
 
-    // h of that state.
-    pub(crate) fn mean_up<A: Arithmetic>(&self, j: usize, state: usize) -> A
-        requires { (j < length (net_of self.now.words.now).table) × (state ≡ (transition (net_of self.now.words.now) j).from) }
-        ensures { A.Is result (states.mean_up (net_of self.now.words.now) (transition (net_of self.now.words.now) j).from) (marks.mean_up_kept (net_of self.now.words.now) (transition (net_of self.now.words.now) j).from) }
+    // h of a state.
+    pub(crate) fn mean_up<A: Arithmetic>(&self, state: usize) -> A
+        requires { (1 ≤ state) × (state ≤ (described self.now.words.now).states) }
+        ensures { A.Is result (states.mean_up (net_of self.now.words.now) state) (marks.mean_up_kept (net_of self.now.words.now) state) }
     {
         let mean = self.table.states[state].mean_up;
         A::marked(mean.figure(), mean.is_kept())

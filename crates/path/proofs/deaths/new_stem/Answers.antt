@@ -5,14 +5,17 @@ use native.Mathlib.Omega.{arith}
 use lib.Dec.{lit≤}
 use Rattle.figure.proofs.Sized.{sized-≤}
 use Rattle.path.proofs.PathSums.{spent_alone, rates_fine, grains_fit, ones_few}
-use Rattle.path.proofs.PathSteps.{rate_fine}
+use Rattle.path.proofs.PathSteps.{rate_fine, left_fine}
 use Rattle.path.proofs.DeathStems.{with_one, with_other, with_sized, with_few, with_stem, stem_is_at, stem_sized}
 use Rattle.path.proofs.deaths.new_stem.Goals as goal
 use Rattle.path.proofs.deaths.new_stem.Goals.{then-is_class1, else-is_class1}
 
+pub rate_sum-requires : goal.rate_sum-requires
+rate_sum-requires c = left_fine c.args.prepared.now.filled c.requires.index c.requires.leaves
+
 pub plus-spent-requires : goal.plus-spent-requires
 plus-spent-requires c =
-    let filled = c.args.prepared.now.filled in let rate = rw c.from-j.ensures at c.rate_sum.ensures in (
+    let filled = c.args.prepared.now.filled in let rate = rw c.requires.leaves at c.rate_sum.ensures in (
       rw c.spent_on-spent.ensures.rates_value (sized-≤ (lit≤ tt) (rates_fine filled.indexes.valid c.requires.known)),
       rw rate (sized-≤ (lit≤ tt) (rate_fine filled c.requires.index)),
     )
@@ -29,7 +32,7 @@ stem_of-requires c =
     let so_far = spent_alone c.spent_on-spent.ensures.grains_value c.spent_on-spent.ensures.rates_value c.spent_on-spent.ensures.ones_value in
     elim c.if-is_class1.branch [
       | then-is_class1 w ↦
-          let rate = rw c.from-j.ensures at w.rate_sum.ensures in
+          let rate = rw c.requires.leaves at w.rate_sum.ensures in
           let spent = with_one filled c.requires so_far c.is_class1.ensures w.if-is_class1.true rate w.plus-spent.ensures in
           rw w.spent-is (c.requires.known, with_sized filled c.requires spent, with_few filled c.requires spent)
       | else-is_class1 w ↦
@@ -45,7 +48,7 @@ returns c =
     let at = stem_is_at _ _ _ _ true _ _ (c.stem_of.ensures _ true refl) in
     elim c.if-is_class1.branch [
       | then-is_class1 w ↦
-          let rate = rw c.from-j.ensures at w.rate_sum.ensures in
+          let rate = rw c.requires.leaves at w.rate_sum.ensures in
           let spent = with_one filled c.requires so_far c.is_class1.ensures w.if-is_class1.true rate w.plus-spent.ensures in
           let is = rw w.spent-is at at in record {
             stem_is = with_stem filled c.requires spent is;

@@ -5,7 +5,7 @@ use Rattle.figure.proofs.Sized.{sized-≤}
 use Rattle.tables.specs.Internal.Described.{net_of}
 use Rattle.path.proofs.PathSums.{path_more, known_take, entry_inside, grains_fit, rates_fine, ones_room}
 use Rattle.path.proofs.PathSums.{found_one, found_other, spent_start, spent_one, spent_other}
-use Rattle.path.proofs.PathSteps.{rate_fine}
+use Rattle.path.proofs.PathSteps.{rate_fine, left_fine}
 use Rattle.path.proofs.lower.spent_on.Goals as goal
 use Rattle.path.proofs.lower.spent_on.Goals.{then-is_class1, else-is_class1}
 
@@ -17,9 +17,13 @@ plus-rates-requires g c =
     let inside = entry_inside c.requires c.loop-x-test.true c.from-j.ensures in let filled = c.args.prepared.now.filled in (
       rw (g.met.A.Arithmetic.figure_is _ _ _ c.loop-x.invariant.rates_are)
           (sized-≤ (lit≤ tt) (rates_fine filled.indexes.valid (known_take _ c.requires))),
-      rw (g.met.A.Arithmetic.figure_is _ _ _ c.rate_sum.ensures)
+      rw (g.met.A.Arithmetic.figure_is _ _ _ (rw c.leaving-step.ensures.state_value at c.rate_sum.ensures))
           (sized-≤ (lit≤ tt) (rate_fine filled inside)),
     )
+
+pub rate_sum-requires : goal.rate_sum-requires
+rate_sum-requires g c =
+    left_fine c.args.prepared.now.filled (entry_inside c.requires c.loop-x-test.true c.from-j.ensures) c.leaving-step.ensures.state_value
 
 pub overflow_add-ones : goal.overflow_add-ones
 overflow_add-ones g c = omega (arith, ones_room c.requires c.loop-x-test.true c.loop-x.invariant.ones_are)
@@ -33,7 +37,7 @@ loop-x-preserved g c =
     (elim c.if-is_class1.branch [
       | then-is_class1 w ↦ rw (w.grains-is, w.rates-is, w.ones-is) (spent_one g.A.Arithmetic.Is _ _ _ c.loop-x.invariant
           (found_one c.leaving-step.ensures.class_value c.is_class1.ensures w.if-is_class1.true)
-          (w.plus-rates.ensures.mark_value _ _ _ _ c.loop-x.invariant.rates_are w.rate_sum.ensures))
+          (w.plus-rates.ensures.mark_value _ _ _ _ c.loop-x.invariant.rates_are (rw c.leaving-step.ensures.state_value at w.rate_sum.ensures)))
       | else-is_class1 w ↦ rw (w.grains-is, w.rates-is, w.ones-is) (spent_other g.A.Arithmetic.Is _ _ _ c.loop-x.invariant
           (found_other c.leaving-step.ensures.class_value c.is_class1.ensures w.if-is_class1.false) w.grains-grains.ensures.0)
     ])

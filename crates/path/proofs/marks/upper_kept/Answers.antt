@@ -9,7 +9,7 @@ use Rattle.tree.proofs.Ranges.{mission_time_sized}
 use Rattle.tables.specs.Internal.Described.{net_of}
 use Rattle.path.proofs.ExitTips.{divisor}
 use Rattle.path.proofs.PathSums.{path_more, known_take, entry_inside, upper_fine, ones_room}
-use Rattle.path.proofs.PathSteps.{share_fine, mean_fine}
+use Rattle.path.proofs.PathSteps.{share_fine, mean_fine, left_fine}
 use Rattle.path.proofs.UpperMarks.{upper_none, upper_longer}
 use Rattle.path.proofs.marks.upper_kept.Goals as goal
 
@@ -22,13 +22,17 @@ overflow_add-ones c = omega (arith, ones_room c.requires c.loop-x-test.true c.lo
 pub overflow_add-ones-in-loop-x : goal.overflow_add-ones-in-loop-x
 overflow_add-ones-in-loop-x c = omega (arith, ones_room c.requires c.loop-x-test.true c.loop-x.invariant.ones_are, c.counts_1-ones.ensures.1)
 
+pub mean_up-mean-requires : goal.mean_up-mean-requires
+mean_up-mean-requires c =
+    left_fine c.args.prepared.now.filled (entry_inside c.requires c.loop-x-test.true c.from-j.ensures) c.leaving-step.ensures.state_value
+
 pub further-upper-requires : goal.further-upper-requires
 further-upper-requires c =
     let inside = entry_inside c.requires c.loop-x-test.true c.from-j.ensures in let filled = c.args.prepared.now.filled in
     let nth = divisor _ (omega arith) (omega (arith, ones_room c.requires c.loop-x-test.true c.loop-x.invariant.ones_are)) c.of_whole-in-loop-x.ensures in (
       rw c.loop-x.invariant.upper_is (upper_fine filled.indexes.valid (known_take _ c.requires)),
       rw c.share-share.ensures (sized-≤ (lit≤ tt) (share_fine filled inside)),
-      rw c.mean_up-mean.ensures (sized-≤ (lit≤ tt) (mean_fine filled inside)),
+      rw (rw c.leaving-step.ensures.state_value at c.mean_up-mean.ensures) (sized-≤ (lit≤ tt) (mean_fine filled inside)),
       rw (c.exact-time.ensures.figure_value, c.args.prepared.now.time_is) (sized-≤ (lit≤ tt) (mission_time_sized filled.indexes.valid)),
       rw c.exact-nth.ensures.figure_value nth.0,
       rw c.exact-nth.ensures.figure_value nth.1,
@@ -38,7 +42,7 @@ pub loop-x-preserved : goal.loop-x-preserved
 loop-x-preserved c =
     rw (path_more (net_of c.args.prepared.now.words.now) c.args.path.now c.loop-x.x-index c.loop-x-test.true c.from-j.ensures)
     (upper_longer _ _ _ c.loop-x.invariant c.leaving-step.ensures.class_value c.of_whole-in-loop-x.ensures c.args.prepared.now.time_is
-    (c.further-upper.ensures _ _ _ _ _ _ _ c.exact-nth.ensures.mark_value c.loop-x.invariant.upper_is c.share-share.ensures c.mean_up-mean.ensures
+    (c.further-upper.ensures _ _ _ _ _ _ _ c.exact-nth.ensures.mark_value c.loop-x.invariant.upper_is c.share-share.ensures (rw c.leaving-step.ensures.state_value at c.mean_up-mean.ensures)
     c.exact-time.ensures.mark_value) c.counts_1-ones.ensures.0)
 
 pub returns : goal.returns

@@ -2,7 +2,7 @@
 -- nothing.
 use native.Mathlib.Omega.{arith}
 use Rattle.tables.proofs.Classes.{origin_small, state_read, class_read}
-use Rattle.path.proofs.PathSteps.{mean_held}
+use Rattle.path.proofs.PathSteps.{left_fine, mean_held}
 use Rattle.path.proofs.prepared.Prepared.leaving.Goals as goal
 
 pub bounds-self-state : goal.bounds-self-state
@@ -13,7 +13,8 @@ bounds-self-state c =
 pub returns-clause-class_value : goal.returns-clause-class_value
 returns-clause-class_value c =
     let filled = c.args.self.now.filled in let leaves = state_read filled.indexes c.requires c.word_of-w.ensures c.from-state.ensures.value in
-    class_read filled.indexes c.requires c.word_of-w.ensures c.is_fast.ensures (mean_held filled c.requires leaves c.figure.ensures) c.of-class.ensures
+    let mean = mean_held filled (left_fine filled c.requires leaves) c.figure.ensures in
+    class_read filled.indexes c.requires c.word_of-w.ensures c.is_fast.ensures (rw leaves at mean) c.of-class.ensures
 
 pub returns-clause-state_value : goal.returns-clause-state_value
 returns-clause-state_value c = state_read c.args.self.now.filled.indexes c.requires c.word_of-w.ensures c.from-state.ensures.value

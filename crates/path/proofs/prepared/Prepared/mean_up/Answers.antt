@@ -4,15 +4,15 @@ use Rattle.path.proofs.PathSteps.{state_held_small, mean_held, mean_kept_held}
 use Rattle.path.proofs.prepared.Prepared.mean_up.Goals as goal
 
 pub offset_bounds-self-state : goal.offset_bounds-self-state
-offset_bounds-self-state g c = omega (arith, state_held_small c.args.self.now.filled c.requires.0 c.requires.1)
+offset_bounds-self-state g c = omega (arith, state_held_small c.args.self.now.filled c.requires)
 
 pub bounds-self-state : goal.bounds-self-state
-bounds-self-state g c = state_held_small c.args.self.now.filled c.requires.0 c.requires.1
+bounds-self-state g c = state_held_small c.args.self.now.filled c.requires
 
 pub returns : goal.returns
 returns g c =
     rw (
-      ← mean_held c.args.self.now.filled c.requires.0 c.requires.1 c.figure.ensures,
-      ← mean_kept_held c.args.self.now.filled c.requires.0 c.requires.1 c.is_kept.ensures,
+      ← mean_held c.args.self.now.filled c.requires c.figure.ensures,
+      ← mean_kept_held c.args.self.now.filled c.requires c.is_kept.ensures,
     )
     c.marked.ensures.mark_value

@@ -4,15 +4,15 @@ use Rattle.path.proofs.PathSteps.{state_held_small, rate_held, rate_kept_held}
 use Rattle.path.proofs.prepared.Prepared.rate_sum.Goals as goal
 
 pub offset_bounds-self-state : goal.offset_bounds-self-state
-offset_bounds-self-state g c = omega (arith, state_held_small c.args.self.now.filled c.requires.0 c.requires.1)
+offset_bounds-self-state g c = omega (arith, state_held_small c.args.self.now.filled c.requires)
 
 pub bounds-self-state : goal.bounds-self-state
-bounds-self-state g c = state_held_small c.args.self.now.filled c.requires.0 c.requires.1
+bounds-self-state g c = state_held_small c.args.self.now.filled c.requires
 
 pub returns : goal.returns
 returns g c =
     rw (
-      ← rate_held c.args.self.now.filled c.requires.0 c.requires.1 c.figure.ensures,
-      ← rate_kept_held c.args.self.now.filled c.requires.0 c.requires.1 c.is_kept.ensures,
+      ← rate_held c.args.self.now.filled c.requires c.figure.ensures,
+      ← rate_kept_held c.args.self.now.filled c.requires c.is_kept.ensures,
     )
     c.marked.ensures.mark_value
