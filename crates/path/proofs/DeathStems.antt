@@ -38,6 +38,8 @@ use Rattle.path.specs.Internal.Lent.{Lent, Filled, model_in, net_in}
 use Rattle.path.specs.Internal.Marks.{last_of}
 use Rattle.path.specs.Internal.Paths.{path_of, Known, own_grains}
 use Rattle.path.specs.Internal.Deaths.{LastStep, StemSized, AnyStemSized, StemIs, last_by, stem_at, stem_of, stem_for, death_lower}
+use Rattle.path.proofs.ExitTips.{divisor}
+use Rattle.path.proofs.PathSteps.{share_fine, factor_fine}
 use Rattle.path.proofs.PathSums.{path_length, path_valid, product_fine, product_one, product_other}
 use Rattle.path.proofs.PathSums.{Alone, SpentSoFar, found_one, found_other, spent_one, spent_other}
 
@@ -228,6 +230,13 @@ module _ {l : Lent} (filled : Filled l) {path : List ℕ} {tip : Tip} {exit : Ex
 
     pub with_stem : {c : Option (Stem Figure)} → c ≡ stem_at net before n a k → c ≡ stem_for net path tip exit
     with_stem s = rw last.leaves (stem_by_step net step before spent.grains_are spent.rates_are spent.ones_are s)
+
+  -- what the lower is worked out of: a stem, the share, the factor and the number among class 1 steps
+  pub operands : (c : Option (Stem Figure)) {r f n : Figure} → AnyStemSized c → r ≡ share step.manner → f ≡ step_factor net (class net step) step
+      → n ≡ of_whole (tip.ones + 1) → AnyStemSized c × Sized 9 2000 r × Sized 9 2000 f × Sized 9 2000 n × (0 < n.digits)
+  operands c stem r-is f-is n_is =
+      let d = divisor _ (omega arith) (omega (arith, ones_high)) n_is in
+      (stem, rw r-is (sized-≤ (lit≤ tt) (share_fine filled last.index)), rw f-is (sized-≤ (lit≤ tt) (factor_fine filled last.index)), d.0, d.1)
 
   -- the lower that the code works out for the path with its last step
 

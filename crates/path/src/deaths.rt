@@ -49,10 +49,7 @@ pub(crate) fn stem_of<A: Arithmetic>(
     }
     let mission = A::exact(prepared.time);
     let rest = A::exact(Figure::of_whole(1_000_000 - spent.grains));
-    let time = mission
-        .times(rest, Direction::Down)
-        .times_ten(-6)
-        .figure();
+    let time = mission.times(rest, Direction::Down).times_ten(-6).figure();
     let above = mission.times(rest, Direction::Up).times_ten(-6);
     Some(Stem {
         time,
@@ -62,6 +59,7 @@ pub(crate) fn stem_of<A: Arithmetic>(
 }
 
 // The stem of the death by `exit` after the path that ends at the tip, worked out along the path.
+// kept: (d) the path, its tip and the exit apart: this function and `Cache::lower` alone take the three.
 fn new_stem(prepared: &Prepared, path: &[u16], tip: Tip, exit: Exit) -> Option<Stem<Figure>>
     requires { LastStep (lent_by prepared.now) path.now tip exit }
     ensures stem_is { result ≡ stem_for (net_of prepared.now.words.now) path.now tip exit }
@@ -137,6 +135,7 @@ impl Cache {
             let stem = new_stem(prepared, path, tip, exit);
             return lower_of(&stem, exit.class, share, factor, nth);
         }
+        // kept: (c) tried as `get_or_insert_with` with a closure: of its `F.post` the proof was given nothing, so not which stem the cache has then.
         match &self.slow {
             Some(kept) => lower_of(kept, exit.class, share, factor, nth),
             None => {

@@ -54,7 +54,7 @@ pub(crate) fn further<A: Arithmetic>(
 }
 
 // The exit of the tip's state that is transition x: its kind and its target stand in its word; nth is the number of the next class 1 step.
-// kept: (d) nth beside the tip: worked out once for all exits of a state; a struct of both would be one more in six contracts.
+// kept: (d) nth beside the tip: worked out once for all exits of a state; a struct of both would be one type more for this function and `Cache::lower` alone.
 pub fn exit_at(prepared: &Prepared, tip: Tip, nth: Figure, x: u16) -> Exit
     requires { ExitReady (lent_by prepared.now) tip x × (nth ≡ ops.of_whole (tip.ones + 1)) }
     ensures { ExitOf (lent_by prepared.now) tip x result }

@@ -1,26 +1,14 @@
 -- `lower` meets its contract: the lower follows from the stem, which leaves every figure on the way in range, and the stem that was kept is that of every
 -- slow exit. Assumes nothing.
 use mathlib.Core.Path.{sym, ◌∙◌}
-use native.Mathlib.Omega.{arith}
-use lib.Dec.{lit≤}
-use Rattle.figure.proofs.Sized.{sized-≤}
-use Rattle.path.proofs.ExitTips.{divisor}
-use Rattle.path.proofs.PathSteps.{share_fine, factor_fine}
-use Rattle.path.proofs.DeathStems.{ones_high, death_at}
+use Rattle.path.proofs.DeathStems.{operands, death_at}
 use Rattle.path.proofs.DeathCache.{cached_some, slow_stem_for}
 use Rattle.path.proofs.deaths.Cache.lower.Goals as goal
 
 pub lower_of-requires : goal.lower_of-requires
 lower_of-requires c =
-    let h = c.requires.last_step.0 in let filled = c.args.prepared.now.filled in let share = rw c.from-j.ensures at c.share-share.ensures in
-    let factor = rw c.from-j.ensures at c.factor-factor.ensures in
-    let d = divisor _ (omega arith) (omega (arith, ones_high filled h)) c.requires.last_step.1 in (
-      c.new_stem-stem.ensures.stem_sized,
-      rw share (sized-≤ (lit≤ tt) (share_fine filled h.index)),
-      rw factor (sized-≤ (lit≤ tt) (factor_fine filled h.index)),
-      d.0,
-      d.1,
-    )
+    let share = rw c.from-j.ensures at c.share-share.ensures in let factor = rw c.from-j.ensures at c.factor-factor.ensures in
+    operands c.args.prepared.now.filled c.requires.last_step.0 _ c.new_stem-stem.ensures.stem_sized share factor c.requires.last_step.1
 
 pub returns-then-not-is_slow-clause-lower_value : goal.returns-then-not-is_slow-clause-lower_value
 returns-then-not-is_slow-clause-lower_value c =
@@ -30,27 +18,13 @@ returns-then-not-is_slow-clause-lower_value c =
 
 pub lower_of-requires-in-Some : goal.lower_of-requires-in-Some
 lower_of-requires-in-Some c =
-    let h = c.requires.last_step.0 in let filled = c.args.prepared.now.filled in let share = rw c.from-j.ensures at c.share-share.ensures in
-    let factor = rw c.from-j.ensures at c.factor-factor.ensures in
-    let d = divisor _ (omega arith) (omega (arith, ones_high filled h)) c.requires.last_step.1 in (
-      c.requires.cached.sized _ c.in-Some.is,
-      rw share (sized-≤ (lit≤ tt) (share_fine filled h.index)),
-      rw factor (sized-≤ (lit≤ tt) (factor_fine filled h.index)),
-      d.0,
-      d.1,
-    )
+    let share = rw c.from-j.ensures at c.share-share.ensures in let factor = rw c.from-j.ensures at c.factor-factor.ensures in
+    operands c.args.prepared.now.filled c.requires.last_step.0 _ (c.requires.cached.sized _ c.in-Some.is) share factor c.requires.last_step.1
 
 pub lower_of-requires-in-None : goal.lower_of-requires-in-None
 lower_of-requires-in-None c =
-    let h = c.requires.last_step.0 in let filled = c.args.prepared.now.filled in let share = rw c.from-j.ensures at c.share-share.ensures in
-    let factor = rw c.from-j.ensures at c.factor-factor.ensures in
-    let d = divisor _ (omega arith) (omega (arith, ones_high filled h)) c.requires.last_step.1 in (
-      c.new_stem-stem-in-None.ensures.stem_sized,
-      rw share (sized-≤ (lit≤ tt) (share_fine filled h.index)),
-      rw factor (sized-≤ (lit≤ tt) (factor_fine filled h.index)),
-      d.0,
-      d.1,
-    )
+    let share = rw c.from-j.ensures at c.share-share.ensures in let factor = rw c.from-j.ensures at c.factor-factor.ensures in
+    operands c.args.prepared.now.filled c.requires.last_step.0 _ c.new_stem-stem-in-None.ensures.stem_sized share factor c.requires.last_step.1
 
 pub returns-in-Some-clause-lower_value : goal.returns-in-Some-clause-lower_value
 returns-in-Some-clause-lower_value c =
