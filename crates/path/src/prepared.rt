@@ -66,8 +66,7 @@ impl Prepared<'_> {
         requires { j < length (net_of self.now.words.now).table }
         ensures { A.Is result (step_factor (net_of self.now.words.now) (step_class (net_of self.now.words.now) j) (transition (net_of self.now.words.now) j)) (step_factor_kept (net_of self.now.words.now) (step_class (net_of self.now.words.now) j) (transition (net_of self.now.words.now) j)) }
     {
-        let factor = self.table.steps[j].factor;
-        A::marked(factor.figure(), factor.is_kept())
+        self.table.steps[j].factor.value()
     }
 
     // Its grains.
@@ -91,8 +90,7 @@ impl Prepared<'_> {
         requires { (1 ≤ state) × (state ≤ (described self.now.words.now).states) }
         ensures { A.Is result (states.rate_sum (net_of self.now.words.now) state) (marks.rate_sum_kept (net_of self.now.words.now) state) }
     {
-        let rate = self.table.states[state].rate;
-        A::marked(rate.figure(), rate.is_kept())
+        self.table.states[state].rate.value()
     }
 
     // h of a state.
@@ -100,7 +98,6 @@ impl Prepared<'_> {
         requires { (1 ≤ state) × (state ≤ (described self.now.words.now).states) }
         ensures { A.Is result (states.mean_up (net_of self.now.words.now) state) (marks.mean_up_kept (net_of self.now.words.now) state) }
     {
-        let mean = self.table.states[state].mean_up;
-        A::marked(mean.figure(), mean.is_kept())
+        self.table.states[state].mean_up.value()
     }
 }

@@ -1,4 +1,5 @@
 -- `mean_up` meets its contract: the table holds h of the state. Assumes nothing.
+use mathlib.Core.Path.{refl}
 use native.Mathlib.Omega.{arith}
 use Rattle.path.proofs.PathSteps.{state_held_small, mean_held, mean_kept_held}
 use Rattle.path.proofs.prepared.Prepared.mean_up.Goals as goal
@@ -11,8 +12,5 @@ bounds-self-state g c = state_held_small c.args.self.now.filled c.requires
 
 pub returns : goal.returns
 returns g c =
-    rw (
-      ← mean_held c.args.self.now.filled c.requires c.figure.ensures,
-      ← mean_kept_held c.args.self.now.filled c.requires c.is_kept.ensures,
-    )
-    c.marked.ensures.mark_value
+    let filled = c.args.self.now.filled in
+    rw (← mean_held filled c.requires refl, ← mean_kept_held filled c.requires refl) c.value.ensures

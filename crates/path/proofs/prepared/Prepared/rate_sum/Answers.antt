@@ -1,4 +1,5 @@
 -- `rate_sum` meets its contract: the table holds E of the state. Assumes nothing.
+use mathlib.Core.Path.{refl}
 use native.Mathlib.Omega.{arith}
 use Rattle.path.proofs.PathSteps.{state_held_small, rate_held, rate_kept_held}
 use Rattle.path.proofs.prepared.Prepared.rate_sum.Goals as goal
@@ -11,8 +12,5 @@ bounds-self-state g c = state_held_small c.args.self.now.filled c.requires
 
 pub returns : goal.returns
 returns g c =
-    rw (
-      ← rate_held c.args.self.now.filled c.requires c.figure.ensures,
-      ← rate_kept_held c.args.self.now.filled c.requires c.is_kept.ensures,
-    )
-    c.marked.ensures.mark_value
+    let filled = c.args.self.now.filled in
+    rw (← rate_held filled c.requires refl, ← rate_kept_held filled c.requires refl) c.value.ensures
