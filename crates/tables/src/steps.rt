@@ -41,9 +41,8 @@ impl Step {
     }
 }
 
-// kept: (d) each formula asks for the widths that its own operations need; no type of an operand has one width for all
-
 // What class 2 takes off 1, of E, the mean, M, T2 and n grains.
+// kept: (d) here and below each formula asks for the widths that its own operations need; no type of an operand has one width for all
 fn class2_loss(rate: Rounded, mean: Rounded, moment: Rounded, time2: Rounded, n: u64) -> Rounded
     requires sized { Sized 9 2000 rate.figure × Sized 9 2000 mean.figure × Sized 9 2000 moment.figure × Sized 9 2000 time2.figure }
     requires digits_nonzero { (0 < time2.figure.digits) × (1 ≤ n) × (n ≤ 1000000) }
