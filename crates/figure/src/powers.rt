@@ -2,7 +2,8 @@
 ghost use Rattle.std.specs.Prelude.{◌≡◌, ◌^◌, ◌<◌};
 
 // Ten to the power k.
-// kept: (b) in arms, for speed: a constant table was written to the stack anew at each call, which took a good quarter of the walk's instructions.
+// kept: (b) in arms, which are compiled to a table: with `10u64.pow`, which multiplies at each call, whole numbers became figures in 1.6 times the time.
+// A table of constants is as fast, but takes a proof of twenty cases, where the arms take none.
 pub(crate) fn ten_to(k: usize) -> u64
     requires { k < 20 }
     ensures { result ≡ 10 ^ k }
