@@ -116,7 +116,7 @@ impl RowTable {
     }
 
     // The row of a state, with its totals to nine digits as the report's are, there being no cut path.
-    pub(crate) fn row(&self, state: u16) -> Row
+    pub fn row(&self, state: u16) -> Row
         requires { RowFits self.now state }
         ensures { result ≡ row_of self.now state }
     {

@@ -1,5 +1,5 @@
 -- The table of totals: the states that have rows, the report's totals and marks, and the totals of each state. Assumes nothing: these are definitions.
-use Rattle.std.specs.Prelude.{ℕ, ◌+◌, ◌≡◌, ◌&&◌, List, [], ◌∷◌, ◌++◌, take, get_or}
+use Rattle.std.specs.Prelude.{ℕ, ◌+◌, ◌≡◌, ◌&&◌, List, [], ◌∷◌, ◌++◌, take, get_or, replicate}
 use Rattle.figure.specs.declared.Figure.{Figure}
 use Rattle.figure.specs.Rounding.{none}
 use Rattle.figure.specs.Internal.Gathered.{Gathered}
@@ -91,6 +91,7 @@ pub record NoTotals (table : RowTable) : Type 0 where
 -- a table without rows
 pub record Empty (table : RowTable) : Type 0 where
   pub no_rows : table.count ≡ 0
+  pub states_zero : table.states ≡ replicate 1000 0
   pub no_totals : NoTotals table
 
 -- one more row, of the state s, behind the others
