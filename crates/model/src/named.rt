@@ -44,7 +44,7 @@ pub(crate) fn lowest_leading_on(index: &Index, states: usize) -> Option<usize>
     requires { states ≤ 1000 }
     ensures { IsLowestOf (leads_on_by index.now) states result }
 {
-    // kept: (c) `1..=states` was tried: std's lemma on `find` is over Range only
+    // kept: (c) `1..=states` was tried: what `find` answers over it stays open, and std says it in terms of numbers for a Range alone (`first_from_Range`)
     (1..states + 1).find(
         |&s|
             requires { s ≤ 1000 }

@@ -50,7 +50,7 @@ pub(crate) fn lowest_uneven(words: &[u32], states: usize, index: &Index) -> Opti
     requires { (states ≤ 1000) × ((s : ℕ) → s ≤ states → Leads words.now index.now s) }
     ensures { IsLowestOf (uneven_by words.now index.now) states result }
 {
-    // kept: (c) `1..=states` was tried: std's lemma on `find` is over Range only
+    // kept: (c) `1..=states` was tried: what `find` answers over it stays open, and std says it in terms of numbers for a Range alone (`first_from_Range`)
     (1..states + 1).find(
         |&s|
             requires { Leads words.now index.now s }
