@@ -4,5 +4,6 @@ pub mod Paths
 pub mod Counts
 pub mod Outcomes
 pub mod Exits
+pub mod Facts
 pub mod Marks
 pub mod Deaths

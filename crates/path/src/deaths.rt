@@ -11,12 +11,12 @@ ghost use Rattle.tree.specs.Lower as bound;
 ghost use Rattle.tables.specs.Internal.Classes.{class_for};
 ghost use Rattle.tables.specs.Internal.Described.{net_of};
 ghost use Rattle.path.specs.Internal.Held.{lent_by};
-ghost use Rattle.path.specs.Internal.Paths.{Known, path_of};
+ghost use Rattle.path.specs.Internal.Paths.{path_of};
 ghost use Rattle.path.specs.Internal.Deaths.{AnyStemSized, Cached, LastStep, StemIs, death_lower, stem_for};
 
 use crate::exits::{Exit, Tip};
 use crate::lower::{Spent, last_factor, product, spent_on};
-use crate::prepared::Prepared;
+use crate::prepared::{Prepared, Walked};
 use figure::{Arithmetic, Direction, Figure};
 use tables::class::Class;
 
@@ -36,24 +36,20 @@ pub struct Cache {
 }
 
 // The stem of N', A and k, with the product along a path.
-pub(crate) fn stem_of<A: Arithmetic>(
-    prepared: &Prepared,
-    path: &[u16],
-    spent: Spent<A>,
-) -> Option<Stem<A>>
-    requires { Known (net_of prepared.now.words.now) path.now × Sized 9 1000 (A.figure_of spent.rates) × (spent.ones ≤ 24) }
-    ensures { (a : Figure) (b : Bool) → A.Is spent.rates a b → StemIs A.Is (net_of prepared.now.words.now) (path_of (net_of prepared.now.words.now) path.now) spent.grains a b spent.ones result }
+pub(crate) fn stem_of<A: Arithmetic>(walked: &Walked, spent: Spent<A>) -> Option<Stem<A>>
+    requires { Sized 9 1000 (A.figure_of spent.rates) × (spent.ones ≤ 24) }
+    ensures { (a : Figure) (b : Bool) → A.Is spent.rates a b → StemIs A.Is (net_of walked.now.prepared.now.words.now) (path_of (net_of walked.now.prepared.now.words.now) walked.now.path.now) spent.grains a b spent.ones result }
 {
     if 1_000_000 <= spent.grains {
         return None;
     }
-    let mission = A::exact(prepared.time);
+    let mission = A::exact(walked.prepared.time);
     let rest = A::exact(Figure::of_whole(1_000_000 - spent.grains));
     let time = mission.times(rest, Direction::Down).times_ten(-6).figure();
     let above = mission.times(rest, Direction::Up).times_ten(-6);
     Some(Stem {
         time,
-        product: product(prepared, path, time),
+        product: product(walked, time),
         last: last_factor(above, spent.rates, spent.ones),
     })
 }
@@ -66,7 +62,8 @@ fn new_stem(prepared: &Prepared, path: &[u16], tip: Tip, exit: Exit) -> Option<S
     ensures stem_sized { AnyStemSized result }
 {
     let j = usize::from(exit.index);
-    let mut spent: Spent<Figure> = spent_on(prepared, path);
+    let walked = Walked { prepared, path };
+    let mut spent: Spent<Figure> = spent_on(&walked);
     if exit.class.is_class1() {
         spent.rates = spent
             .rates
@@ -75,7 +72,7 @@ fn new_stem(prepared: &Prepared, path: &[u16], tip: Tip, exit: Exit) -> Option<S
     } else {
         spent.grains += prepared.grains(j);
     }
-    stem_of(prepared, path, spent)
+    stem_of(&walked, spent)
 }
 
 // The lower of a death path from its stem, its last step being of a class, with its share and factor; it is the nth of class 1 if it is of class 1.

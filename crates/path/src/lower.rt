@@ -8,10 +8,10 @@ ghost use Rattle.tree.specs.Grains.{grain_sum};
 ghost use Rattle.tree.specs.Lower as bound;
 ghost use Rattle.tree.specs.Marks as marks;
 ghost use Rattle.tables.specs.Internal.Described.{net_of};
-ghost use Rattle.path.specs.Internal.Paths.{Known, own_grains, path_of};
+ghost use Rattle.path.specs.Internal.Paths.{own_grains, path_of};
 ghost use Rattle.path.specs.Internal.Marks.{last_of, last_of_kept};
 
-use crate::prepared::Prepared;
+use crate::prepared::Walked;
 use figure::{Arithmetic, Direction, Figure};
 
 // N', A and k of a path.
@@ -22,23 +22,22 @@ pub(crate) struct Spent<A> {
     pub ones: u64,
 }
 
-pub(crate) fn spent_on<A: Arithmetic>(prepared: &Prepared, path: &[u16]) -> Spent<A>
-    requires { Known (net_of prepared.now.words.now) path.now }
-    ensures grains_value { result.grains ≡ grain_sum (net_of prepared.now.words.now) (own_grains (net_of prepared.now.words.now)) (path_of (net_of prepared.now.words.now) path.now) }
-    ensures rates_value { A.Is result.rates (bound.path_rate_sum (net_of prepared.now.words.now) (path_of (net_of prepared.now.words.now) path.now)) (marks.path_rates_kept (net_of prepared.now.words.now) (path_of (net_of prepared.now.words.now) path.now)) }
-    ensures ones_value { result.ones ≡ class1_count (net_of prepared.now.words.now) (path_of (net_of prepared.now.words.now) path.now) }
+pub(crate) fn spent_on<A: Arithmetic>(walked: &Walked) -> Spent<A>
+    ensures grains_value { result.grains ≡ grain_sum (net_of walked.now.prepared.now.words.now) (own_grains (net_of walked.now.prepared.now.words.now)) (path_of (net_of walked.now.prepared.now.words.now) walked.now.path.now) }
+    ensures rates_value { A.Is result.rates (bound.path_rate_sum (net_of walked.now.prepared.now.words.now) (path_of (net_of walked.now.prepared.now.words.now) walked.now.path.now)) (marks.path_rates_kept (net_of walked.now.prepared.now.words.now) (path_of (net_of walked.now.prepared.now.words.now) walked.now.path.now)) }
+    ensures ones_value { result.ones ≡ class1_count (net_of walked.now.prepared.now.words.now) (path_of (net_of walked.now.prepared.now.words.now) walked.now.path.now) }
 {
     let mut grains: u64 = 0;
     let mut rates = A::exact(Figure::zero());
     let mut ones: u64 = 0;
-    for &x in path {
+    for &x in walked.path {
         let j = usize::from(x);
-        let step = prepared.leaving(j);
+        let step = walked.prepared.leaving(j);
         if step.class.is_class1() {
-            rates = rates.plus(prepared.rate_sum(step.state), Direction::Up);
+            rates = rates.plus(walked.prepared.rate_sum(step.state), Direction::Up);
             ones += 1;
         } else {
-            grains += prepared.grains(j);
+            grains += walked.prepared.grains(j);
         }
     }
     Spent {
@@ -49,23 +48,23 @@ pub(crate) fn spent_on<A: Arithmetic>(prepared: &Prepared, path: &[u16]) -> Spen
 }
 
 // The product of a path's factors, t being down(t).
-pub(crate) fn product<A: Arithmetic>(prepared: &Prepared, path: &[u16], t: Figure) -> A
-    requires { Known (net_of prepared.now.words.now) path.now × Sized 9 100 t }
-    ensures { A.Is result (bound.lower_product (net_of prepared.now.words.now) (own_grains (net_of prepared.now.words.now)) t (path_of (net_of prepared.now.words.now) path.now)) (marks.lower_product_kept (net_of prepared.now.words.now) (own_grains (net_of prepared.now.words.now)) t (path_of (net_of prepared.now.words.now) path.now)) }
+pub(crate) fn product<A: Arithmetic>(walked: &Walked, t: Figure) -> A
+    requires { Sized 9 100 t }
+    ensures { A.Is result (bound.lower_product (net_of walked.now.prepared.now.words.now) (own_grains (net_of walked.now.prepared.now.words.now)) t (path_of (net_of walked.now.prepared.now.words.now) walked.now.path.now)) (marks.lower_product_kept (net_of walked.now.prepared.now.words.now) (own_grains (net_of walked.now.prepared.now.words.now)) t (path_of (net_of walked.now.prepared.now.words.now) walked.now.path.now)) }
 {
     let time = A::exact(t);
     let mut p = A::exact(Figure::of_whole(1));
     let mut k: u64 = 0;
-    for &x in path {
+    for &x in walked.path {
         let j = usize::from(x);
-        if prepared.leaving(j).class.is_class1() {
+        if walked.prepared.leaving(j).class.is_class1() {
             k += 1;
             p = p
-                .times(prepared.share(j), Direction::Down)
+                .times(walked.prepared.share(j), Direction::Down)
                 .times(time, Direction::Down)
                 .divided(A::exact(Figure::of_whole(k)), Direction::Down);
         } else {
-            p = p.times(prepared.factor(j), Direction::Down);
+            p = p.times(walked.prepared.factor(j), Direction::Down);
         }
     }
     p

@@ -8,7 +8,7 @@ ghost use Rattle.path.specs.Internal.Paths.{Known, path_of};
 use crate::deaths::stem_of;
 use crate::exits::further;
 use crate::lower::{Spent, spent_on};
-use crate::prepared::Prepared;
+use crate::prepared::{Prepared, Walked};
 use figure::{Arithmetic, Direction, Figure, Rounded};
 
 // The mark of the upper of a path.
@@ -32,12 +32,13 @@ pub fn upper_kept(prepared: &Prepared, path: &[u16]) -> bool
 }
 
 // Whether nothing was lost on the way to the grains of a path's steps; those of class 1 have none.
-fn grains_kept(prepared: &Prepared, path: &[u16]) -> bool
-    requires { Known (net_of prepared.now.words.now) path.now }
-    ensures { result ≡ marks.all_grains_kept (marks.grains_kept (net_of prepared.now.words.now) []) (path_of (net_of prepared.now.words.now) path.now) }
+fn grains_kept(walked: &Walked) -> bool
+    ensures { result ≡ marks.all_grains_kept (marks.grains_kept (net_of walked.now.prepared.now.words.now) []) (path_of (net_of walked.now.prepared.now.words.now) walked.now.path.now) }
 {
-    path.iter()
-        .all(|&x| prepared.is_grains_kept(usize::from(x)))
+    walked
+        .path
+        .iter()
+        .all(|&x| walked.prepared.is_grains_kept(usize::from(x)))
 }
 
 // The mark of the lower of a path. Where N' fills the mission time, only the grains count.
@@ -45,9 +46,10 @@ pub fn lower_kept(prepared: &Prepared, path: &[u16]) -> bool
     requires { Known (net_of prepared.now.words.now) path.now }
     ensures { result ≡ marks.lower_kept (net_of prepared.now.words.now) (path_of (net_of prepared.now.words.now) path.now) }
 {
-    let kept = grains_kept(prepared, path);
-    let spent: Spent<Rounded> = spent_on(prepared, path);
-    match stem_of(prepared, path, spent) {
+    let walked = Walked { prepared, path };
+    let kept = grains_kept(&walked);
+    let spent: Spent<Rounded> = spent_on(&walked);
+    match stem_of(&walked, spent) {
         None => kept,
         Some(stem) => {
             let lower = stem.product.times(stem.last, Direction::Down);

@@ -4,6 +4,8 @@ ghost use Rattle.std.proofs.Props.{props};
 ghost use Rattle.tree.specs.States.{mission_time};
 ghost use Rattle.tables.specs.Internal.Described.{described, net_of};
 ghost use Rattle.path.specs.Internal.Lent.{Filled, lent};
+ghost use Rattle.path.specs.Internal.Paths.{Known};
+ghost use Rattle.path.specs.Internal.Facts.{known_prop};
 ghost use Rattle.tables.specs.Internal.Facts.{indexes_prop};
 
 use figure::{Arithmetic, Figure};
@@ -21,6 +23,14 @@ pub struct Prepared<'a> {
     pub time: Figure,
     pub ghost filled: { Filled (lent words.now index.now table.now) } by { Prim.hlevel (props, indexes_prop) },
     pub ghost time_is: { time ≡ mission_time (net_of words.now) },
+}
+
+// A path of the model, its steps being entries of the index.
+#[derive(Clone, Copy)]
+pub(crate) struct Walked<'a> {
+    pub prepared: &'a Prepared<'a>,
+    pub path: &'a [u16],
+    pub ghost known: { Known (net_of prepared.now.words.now) path.now } by { Prim.hlevel (props, known_prop) },
 }
 
 // The class of a step, and the state that it leaves.

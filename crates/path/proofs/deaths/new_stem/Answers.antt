@@ -34,11 +34,11 @@ stem_of-requires c =
       | then-is_class1 w ↦
           let rate = rw c.requires.leaves at w.rate_sum.ensures in
           let spent = with_one filled c.requires so_far c.is_class1.ensures w.if-is_class1.true rate w.plus-spent.ensures in
-          rw w.spent-is (c.requires.known, with_sized filled c.requires spent, with_few filled c.requires spent)
+          rw w.spent-is (with_sized filled c.requires spent, with_few filled c.requires spent)
       | else-is_class1 w ↦
           let grains = rw c.from-j.ensures at w.grains.ensures.0 in
           let spent = with_other filled c.requires so_far c.is_class1.ensures w.if-is_class1.false grains in
-          rw w.spent-is (c.requires.known, with_sized filled c.requires spent, with_few filled c.requires spent)
+          rw w.spent-is (with_sized filled c.requires spent, with_few filled c.requires spent)
     ]
 
 pub returns : goal.returns

@@ -11,7 +11,7 @@ use Rattle.path.proofs.deaths.stem_of.Goals as goal
 
 pub times-requires : goal.times-requires
 times-requires g c =
-    let valid = c.args.prepared.now.filled.indexes.valid in let time_is = c.args.prepared.now.time_is in let inside = c.if-spent-ge1000000.false in (
+    let valid = c.args.walked.now.prepared.now.filled.indexes.valid in let time_is = c.args.walked.now.prepared.now.time_is in let inside = c.if-spent-ge1000000.false in (
       rw c.exact-mission.ensures.figure_value (sized-≤ (lit≤ tt) (time_fine valid inside time_is c.of_whole.ensures)),
       rw c.exact-rest.ensures.figure_value
           (sized-≤ (lit≤ tt) (rest_fine valid inside time_is c.of_whole.ensures)),
@@ -19,7 +19,7 @@ times-requires g c =
 
 pub times_ten-requires : goal.times_ten-requires
 times_ten-requires g c =
-    let valid = c.args.prepared.now.filled.indexes.valid in let time_is = c.args.prepared.now.time_is in let inside = c.if-spent-ge1000000.false in (
+    let valid = c.args.walked.now.prepared.now.filled.indexes.valid in let time_is = c.args.walked.now.prepared.now.time_is in let inside = c.if-spent-ge1000000.false in (
       rw (c.times.ensures.figure_value, c.exact-mission.ensures.figure_value, c.exact-rest.ensures.figure_value)
           (sized-≤ (lit≤ tt) (times_down_sized (time_fine valid inside time_is c.of_whole.ensures) (rest_fine valid inside time_is c.of_whole.ensures))),
       lit≤ tt,
@@ -27,7 +27,7 @@ times_ten-requires g c =
 
 pub times-requires-2 : goal.times-requires-2
 times-requires-2 g c =
-    let valid = c.args.prepared.now.filled.indexes.valid in let time_is = c.args.prepared.now.time_is in let inside = c.if-spent-ge1000000.false in (
+    let valid = c.args.walked.now.prepared.now.filled.indexes.valid in let time_is = c.args.walked.now.prepared.now.time_is in let inside = c.if-spent-ge1000000.false in (
       rw c.exact-mission.ensures.figure_value (sized-≤ (lit≤ tt) (time_fine valid inside time_is c.of_whole.ensures)),
       rw c.exact-rest.ensures.figure_value
           (sized-≤ (lit≤ tt) (rest_fine valid inside time_is c.of_whole.ensures)),
@@ -35,7 +35,7 @@ times-requires-2 g c =
 
 pub times_ten-above-requires : goal.times_ten-above-requires
 times_ten-above-requires g c =
-    let valid = c.args.prepared.now.filled.indexes.valid in let time_is = c.args.prepared.now.time_is in let inside = c.if-spent-ge1000000.false in (
+    let valid = c.args.walked.now.prepared.now.filled.indexes.valid in let time_is = c.args.walked.now.prepared.now.time_is in let inside = c.if-spent-ge1000000.false in (
       rw (c.times-2.ensures.figure_value, c.exact-mission.ensures.figure_value, c.exact-rest.ensures.figure_value)
           (sized-≤ (lit≤ tt) (times_up_sized (time_fine valid inside time_is c.of_whole.ensures) (rest_fine valid inside time_is c.of_whole.ensures))),
       lit≤ tt,
@@ -43,22 +43,20 @@ times_ten-above-requires g c =
 
 pub product-requires : goal.product-requires
 product-requires g c =
-    let valid = c.args.prepared.now.filled.indexes.valid in let time_is = c.args.prepared.now.time_is in let inside = c.if-spent-ge1000000.false in (
-      c.requires.0,
-      rw (
-        c.figure-time.ensures,
-        c.times_ten.ensures.figure_value,
-        c.times.ensures.figure_value,
-        c.exact-mission.ensures.figure_value,
-        c.exact-rest.ensures.figure_value,
-        down_is valid inside time_is c.of_whole.ensures,
-      )
-          (down_fine valid inside time_is c.of_whole.ensures),
+    let valid = c.args.walked.now.prepared.now.filled.indexes.valid in let time_is = c.args.walked.now.prepared.now.time_is in let inside = c.if-spent-ge1000000.false in
+    rw (
+      c.figure-time.ensures,
+      c.times_ten.ensures.figure_value,
+      c.times.ensures.figure_value,
+      c.exact-mission.ensures.figure_value,
+      c.exact-rest.ensures.figure_value,
+      down_is valid inside time_is c.of_whole.ensures,
     )
+    (down_fine valid inside time_is c.of_whole.ensures)
 
 pub last_factor-requires : goal.last_factor-requires
 last_factor-requires g c =
-    let valid = c.args.prepared.now.filled.indexes.valid in let time_is = c.args.prepared.now.time_is in let inside = c.if-spent-ge1000000.false in (
+    let valid = c.args.walked.now.prepared.now.filled.indexes.valid in let time_is = c.args.walked.now.prepared.now.time_is in let inside = c.if-spent-ge1000000.false in (
       rw (
         c.times_ten-above.ensures.figure_value,
         c.times-2.ensures.figure_value,
@@ -67,15 +65,15 @@ last_factor-requires g c =
         up_is valid inside time_is c.of_whole.ensures,
       )
           (up_fine valid inside time_is c.of_whole.ensures),
-      sized-≤ (lit≤ tt) c.requires.1,
-      c.requires.2,
+      sized-≤ (lit≤ tt) c.requires.0,
+      c.requires.1,
     )
 
 pub returns : goal.returns
 unfolding last_by
 returns g c = λ a b rates.
-    let valid = c.args.prepared.now.filled.indexes.valid in let time_is = c.args.prepared.now.time_is in let inside = c.if-spent-ge1000000.false in
-    let net = net_of c.args.prepared.now.words.now in let left : c.figure-time.result ≡ down 9 (remaining_time net c.args.spent.grains) = rw (
+    let valid = c.args.walked.now.prepared.now.filled.indexes.valid in let time_is = c.args.walked.now.prepared.now.time_is in let inside = c.if-spent-ge1000000.false in
+    let net = net_of c.args.walked.now.prepared.now.words.now in let left : c.figure-time.result ≡ down 9 (remaining_time net c.args.spent.grains) = rw (
       c.figure-time.ensures,
       c.times_ten.ensures.figure_value,
       c.times.ensures.figure_value,

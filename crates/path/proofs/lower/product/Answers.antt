@@ -16,35 +16,35 @@ pub loop-x-init : goal.loop-x-init
 loop-x-init g c = product_start g.A.Arithmetic.Is _ _ c.of_whole.ensures c.exact-p.ensures.mark_value
 
 pub overflow_add-k : goal.overflow_add-k
-overflow_add-k g c = omega (arith, ones_room c.requires.0 c.loop-x-test.true c.loop-x.invariant.ones_are)
+overflow_add-k g c = omega (arith, ones_room c.args.walked.now.known c.loop-x-test.true c.loop-x.invariant.ones_are)
 
 pub times-requires : goal.times-requires
 times-requires g c =
-    let inside = entry_inside c.requires.0 c.loop-x-test.true c.from-j.ensures in let filled = c.args.prepared.now.filled in (
+    let inside = entry_inside c.args.walked.now.known c.loop-x-test.true c.from-j.ensures in let filled = c.args.walked.now.prepared.now.filled in (
       rw (g.met.A.Arithmetic.figure_is _ _ _ c.loop-x.invariant.product_is)
-          (sized-≤ (lit≤ tt) (product_fine filled.indexes.valid (known_take _ c.requires.0) c.requires.1)),
+          (sized-≤ (lit≤ tt) (product_fine filled.indexes.valid (known_take _ c.args.walked.now.known) c.requires)),
       rw (g.met.A.Arithmetic.figure_is _ _ _ c.share.ensures)
           (sized-≤ (lit≤ tt) (share_fine filled inside)),
     )
 
 pub times-requires-then-is_class1 : goal.times-requires-then-is_class1
 times-requires-then-is_class1 g c =
-    let inside = entry_inside c.requires.0 c.loop-x-test.true c.from-j.ensures in let filled = c.args.prepared.now.filled in (
+    let inside = entry_inside c.args.walked.now.known c.loop-x-test.true c.from-j.ensures in let filled = c.args.walked.now.prepared.now.filled in (
       rw (
         c.times.ensures.figure_value,
         g.met.A.Arithmetic.figure_is _ _ _ c.loop-x.invariant.product_is,
         g.met.A.Arithmetic.figure_is _ _ _ c.share.ensures,
       )
           (sized-≤ (lit≤ tt)
-          (times_down_sized (product_fine filled.indexes.valid (known_take _ c.requires.0) c.requires.1) (share_fine filled inside))),
+          (times_down_sized (product_fine filled.indexes.valid (known_take _ c.args.walked.now.known) c.requires) (share_fine filled inside))),
       rw c.exact-time.ensures.figure_value
-          (sized-≤ (lit≤ tt) c.requires.1),
+          (sized-≤ (lit≤ tt) c.requires),
     )
 
 pub divided-p-requires : goal.divided-p-requires
 divided-p-requires g c =
-    let inside = entry_inside c.requires.0 c.loop-x-test.true c.from-j.ensures in let filled = c.args.prepared.now.filled in
-    let room = ones_room c.requires.0 c.loop-x-test.true c.loop-x.invariant.ones_are in (
+    let inside = entry_inside c.args.walked.now.known c.loop-x-test.true c.from-j.ensures in let filled = c.args.walked.now.prepared.now.filled in
+    let room = ones_room c.args.walked.now.known c.loop-x-test.true c.loop-x.invariant.ones_are in (
       rw (
         c.times-then-is_class1.ensures.figure_value,
         c.times.ensures.figure_value,
@@ -53,8 +53,8 @@ divided-p-requires g c =
         g.met.A.Arithmetic.figure_is _ _ _ c.share.ensures,
       )
           (sized-≤ (lit≤ tt)
-          (times_down_sized (times_down_sized (product_fine filled.indexes.valid (known_take _ c.requires.0) c.requires.1) (share_fine filled inside))
-          c.requires.1)),
+          (times_down_sized (times_down_sized (product_fine filled.indexes.valid (known_take _ c.args.walked.now.known) c.requires) (share_fine filled inside))
+          c.requires)),
       rw (c.exact.ensures.figure_value, c.of_whole-then-is_class1.ensures)
           (sized-≤ (lit≤ tt) (count_sized _ (le_trans {m = 24} (omega (arith, room)) (lit≤ tt)))),
       rw (c.exact.ensures.figure_value, c.of_whole-then-is_class1.ensures) (of_whole_above _ (omega arith)),
@@ -62,16 +62,16 @@ divided-p-requires g c =
 
 pub times-p-requires : goal.times-p-requires
 times-p-requires g c =
-    let inside = entry_inside c.requires.0 c.loop-x-test.true c.from-j.ensures in let filled = c.args.prepared.now.filled in (
+    let inside = entry_inside c.args.walked.now.known c.loop-x-test.true c.from-j.ensures in let filled = c.args.walked.now.prepared.now.filled in (
       rw (g.met.A.Arithmetic.figure_is _ _ _ c.loop-x.invariant.product_is)
-          (sized-≤ (lit≤ tt) (product_fine filled.indexes.valid (known_take _ c.requires.0) c.requires.1)),
+          (sized-≤ (lit≤ tt) (product_fine filled.indexes.valid (known_take _ c.args.walked.now.known) c.requires)),
       rw (g.met.A.Arithmetic.figure_is _ _ _ c.factor.ensures)
           (sized-≤ (lit≤ tt) (factor_fine filled inside)),
     )
 
 pub loop-x-preserved : goal.loop-x-preserved
 loop-x-preserved g c =
-    rw (path_more (net_of c.args.prepared.now.words.now) c.args.path.now c.loop-x.x-index c.loop-x-test.true c.from-j.ensures)
+    rw (path_more (net_of c.args.walked.now.prepared.now.words.now) c.args.walked.now.path.now c.loop-x.x-index c.loop-x-test.true c.from-j.ensures)
     (elim c.if-is_class1.branch [
       | then-is_class1 w ↦ rw (w.k-is, w.p-is) (product_more_one g.A.Arithmetic.Is _ _ _ _ c.loop-x.invariant
           (found_one c.leaving.ensures.class_value c.is_class1.ensures w.if-is_class1.true) w.of_whole-then-is_class1.ensures

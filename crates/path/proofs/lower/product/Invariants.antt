@@ -6,4 +6,4 @@ use Rattle.path.proofs.lower.product.Given as goal
 
 abbrev pub invariant-loop-x : goal.invariant-loop-x
 invariant-loop-x g l =
-    ProductSoFar g.A.Arithmetic.Is (net_of l.prepared.words.now) l.fn.t (path_of (net_of l.prepared.words.now) (take l.x-index l.path)) l.k l.p
+    ProductSoFar g.A.Arithmetic.Is (net_of l.walked.prepared.now.words.now) l.fn.t (path_of (net_of l.walked.prepared.now.words.now) (take l.x-index l.walked.path.now)) l.k l.p

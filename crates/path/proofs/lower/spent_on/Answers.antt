@@ -14,26 +14,26 @@ loop-x-init g c = spent_start g.A.Arithmetic.Is _ c.zero.ensures c.exact-rates.e
 
 pub plus-rates-requires : goal.plus-rates-requires
 plus-rates-requires g c =
-    let inside = entry_inside c.requires c.loop-x-test.true c.from-j.ensures in let filled = c.args.prepared.now.filled in (
+    let inside = entry_inside c.args.walked.now.known c.loop-x-test.true c.from-j.ensures in let filled = c.args.walked.now.prepared.now.filled in (
       rw (g.met.A.Arithmetic.figure_is _ _ _ c.loop-x.invariant.rates_are)
-          (sized-≤ (lit≤ tt) (rates_fine filled.indexes.valid (known_take _ c.requires))),
+          (sized-≤ (lit≤ tt) (rates_fine filled.indexes.valid (known_take _ c.args.walked.now.known))),
       rw (g.met.A.Arithmetic.figure_is _ _ _ (rw c.leaving-step.ensures.state_value at c.rate_sum.ensures))
           (sized-≤ (lit≤ tt) (rate_fine filled inside)),
     )
 
 pub rate_sum-requires : goal.rate_sum-requires
 rate_sum-requires g c =
-    left_fine c.args.prepared.now.filled (entry_inside c.requires c.loop-x-test.true c.from-j.ensures) c.leaving-step.ensures.state_value
+    left_fine c.args.walked.now.prepared.now.filled (entry_inside c.args.walked.now.known c.loop-x-test.true c.from-j.ensures) c.leaving-step.ensures.state_value
 
 pub overflow_add-ones : goal.overflow_add-ones
-overflow_add-ones g c = omega (arith, ones_room c.requires c.loop-x-test.true c.loop-x.invariant.ones_are)
+overflow_add-ones g c = omega (arith, ones_room c.args.walked.now.known c.loop-x-test.true c.loop-x.invariant.ones_are)
 
 pub overflow_add-grains : goal.overflow_add-grains
-overflow_add-grains g c = omega (arith, c.loop-x.invariant.grains_are, c.grains-grains.ensures.1, grains_fit (known_take c.loop-x.x-index c.requires))
+overflow_add-grains g c = omega (arith, c.loop-x.invariant.grains_are, c.grains-grains.ensures.1, grains_fit (known_take c.loop-x.x-index c.args.walked.now.known))
 
 pub loop-x-preserved : goal.loop-x-preserved
 loop-x-preserved g c =
-    rw (path_more (net_of c.args.prepared.now.words.now) c.args.path.now c.loop-x.x-index c.loop-x-test.true c.from-j.ensures)
+    rw (path_more (net_of c.args.walked.now.prepared.now.words.now) c.args.walked.now.path.now c.loop-x.x-index c.loop-x-test.true c.from-j.ensures)
     (elim c.if-is_class1.branch [
       | then-is_class1 w ↦ rw (w.grains-is, w.rates-is, w.ones-is) (spent_one g.A.Arithmetic.Is _ _ _ c.loop-x.invariant
           (found_one c.leaving-step.ensures.class_value c.is_class1.ensures w.if-is_class1.true)

@@ -6,4 +6,4 @@ use Rattle.path.proofs.lower.spent_on.Given as goal
 
 abbrev pub invariant-loop-x : goal.invariant-loop-x
 invariant-loop-x g l =
-    SpentSoFar g.A.Arithmetic.Is (net_of l.prepared.words.now) (path_of (net_of l.prepared.words.now) (take l.x-index l.path)) l.grains l.rates l.ones
+    SpentSoFar g.A.Arithmetic.Is (net_of l.walked.prepared.now.words.now) (path_of (net_of l.walked.prepared.now.words.now) (take l.x-index l.walked.path.now)) l.grains l.rates l.ones

@@ -8,6 +8,6 @@ use Rattle.path.proofs.marks.grains_kept.Goals as goal
 
 pub returns : goal.returns
 returns c =
-    let net = net_of c.args.prepared.now.words.now in
-    let each : IsTrue c.all.result ↔ All (λ j. marks.grains_kept net [] (transition net j) ≡ true) c.args.path.now = search rules in
-    all_listed (λ j. marks.grains_kept net [] (transition net j)) c.args.path.now c.all.result each ∙ all_grains_listed net c.args.path.now
+    let net = net_of c.args.walked.now.prepared.now.words.now in
+    let each : IsTrue c.all.result ↔ All (λ j. marks.grains_kept net [] (transition net j) ≡ true) c.args.walked.now.path.now = search rules in
+    all_listed (λ j. marks.grains_kept net [] (transition net j)) c.args.walked.now.path.now c.all.result each ∙ all_grains_listed net c.args.walked.now.path.now

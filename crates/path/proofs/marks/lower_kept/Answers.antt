@@ -8,7 +8,6 @@ use Rattle.path.proofs.marks.lower_kept.Goals as goal
 
 pub stem_of-requires : goal.stem_of-requires
 stem_of-requires c = (
-  c.requires,
   rw c.spent_on-spent.ensures.rates_value (sized-≤ (lit≤ tt) (rates_fine c.args.prepared.now.filled.indexes.valid c.requires)),
   ones_few c.requires c.spent_on-spent.ensures.ones_value,
 )
