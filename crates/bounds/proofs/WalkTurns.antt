@@ -203,11 +203,14 @@ module _ {l : Lent} {a : Asked} {h : Held} {x : Exit} (w : Turn l a h x) where
   pub whole_known : Known net (take (a.tip.len + 1) written)
   whole_known = rw whole_is (known_more (omega (arith, w.ready.length_is, room w.filled w.ready)) index_below w.ready.known)
 
+  -- the path through it is noted in the marks, as a death of this lower or as a cut
+  abbrev pub MarkedThere : Option Figure → RowTable → Type 0
+  MarkedThere low rows = MarksNoted (asked_marks low net (path_there l a h x) x.tip.upper h.rows) h.rows rows
+
   -- what the walk notes in the marks of the path as it is written, it notes of this path
-  pub mark_there : (low : Option Figure) (u : Figure) {before after rows : RowTable} → rows ≡ after
-      → MarksNoted (asked_marks low net (path_of net (take (a.tip.len + 1) written)) u before) before after
-      → MarksNoted (asked_marks low net (path_there l a h x) u before) before rows
-  mark_there low u {before} {after} e m = rw e (subst (λ p. MarksNoted (asked_marks low net p u before) before after) whole_path m)
+  pub mark_there : (low : Option Figure) {after rows : RowTable} → rows ≡ after
+      → MarksNoted (asked_marks low net (path_of net (take (a.tip.len + 1) written)) x.tip.upper h.rows) h.rows after → MarkedThere low rows
+  mark_there low {after} e m = rw e (subst (λ p. MarksNoted (asked_marks low net p x.tip.upper h.rows) h.rows after) whole_path m)
 
   pub last_step : LastStep l (take a.tip.len written) a.tip x
   last_step = rw before_is (record {
@@ -240,8 +243,7 @@ module _ {l : Lent} {a : Asked} {h : Held} {x : Exit} (w : Turn l a h x) where
   module _ (o : Coded) (is : outcome_of o ≡ judged_there l a h x) {after : Counts} where
     -- as a death, of the lower f
     pub death_noted : is_death (outcome_of o) ≡ true → {f : Figure} → Sized 9 35000 f → f ≡ lower_there l a h x → after ≡ death_more h.made
-        → {mid rows : RowTable} → MarksNoted (asked_marks (Some f) net (path_there l a h x) x.tip.upper h.rows) h.rows mid
-        → DeathNoted x.tip.state f x.tip.upper mid rows
+        → {mid rows : RowTable} → MarkedThere (Some f) mid → DeathNoted x.tip.state f x.tip.upper mid rows
         → {cache : Cache} → Cached net (path_before l a h x) a.tip.state cache → Visited l a h x o after cache rows
     unfolding with_death marks_with_death
     death_noted on {f} low f-is more {mid} {rows} m k cached = record {
@@ -281,8 +283,7 @@ module _ {l : Lent} {a : Asked} {h : Held} {x : Exit} (w : Turn l a h x) where
 
     -- as a cut
     pub cut_noted : is_death (outcome_of o) ≡ false → is_continued (outcome_of o) ≡ false → after ≡ cut_more h.made
-        → {mid rows : RowTable} → MarksNoted (asked_marks None net (path_there l a h x) x.tip.upper h.rows) h.rows mid
-        → CutNoted x.tip.upper mid rows → Visited l a h x o after h.cache rows
+        → {mid rows : RowTable} → MarkedThere None mid → CutNoted x.tip.upper mid rows → Visited l a h x o after h.cache rows
     unfolding with_cut marks_with_cut
     cut_noted off ended more {mid} {rows} m k = record {
       turn = w;

@@ -33,6 +33,7 @@ mod walk;
 
 // The lower and the upper figure, the cut paths' part of the upper, the counts of death paths, cut paths and steps, and whether no operation that the
 // lower or the upper figure rests on lost anything: then it equals its exact sum.
+// kept: (a) three counts and two marks, and no structs of them: these fields are promised to callers.
 #[derive(Clone, Copy, PartialEq, Eq)]
 pub struct Report {
     pub lower: Figure,
@@ -134,6 +135,7 @@ fn measured(words: &[u32], budget: u64, lent: usize, rows: &mut RowTable) -> Res
 
 // The report on the model that the words describe, White's lower and upper bounds summed over the paths of its cut tree and rounded outward; or a
 // refusal. It takes every list of words and every budget.
+// kept: (a) a list and a budget, as C hands them over.
 pub fn unreliability(words: &[u32], budget: u64) -> Result<Report, Refusal>
     ensures { Promised words.now words.now budget result }
 {

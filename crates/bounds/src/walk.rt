@@ -22,7 +22,9 @@ pub(crate) struct Task {
 
 // Walks every exit of the tip's state. `left` is the number of steps that the path may still take. It hands back the counts with the steps taken,
 // keeps all totals in `rows`, and stops at the first step past the budget. The entry counts are set back, and the path up to the tip stays as it is.
-// kept: the path is an array of the longest one with the tip's length beside it, since nothing here is allocated and a slice does not grow.
+// kept: (a) the path is an array of the longest one with the tip's length beside it, since nothing here is allocated and a slice does not grow.
+// kept: (b) one function, though a long one: tried with functions of their own for the marks of a death and of a cut, which the compiler built in here,
+// and deaths cost more.
 pub(crate) fn walk(
     prepared: &Prepared,
     task: Task,
@@ -55,15 +57,9 @@ pub(crate) fn walk(
         let before = entered[to];
         let exits = prepared.index.exit_count(to);
         let named = is_named_end(prepared.index, to, exits);
-        let outcome = judge(
-            named,
-            exits,
-            before,
-            left - 1,
-            upper,
-            task.level,
-            task.entry_limit,
-        );
+        let level = task.level;
+        let limit = task.entry_limit;
+        let outcome = judge(named, exits, before, left - 1, upper, level, limit);
         match outcome {
             Outcome::Death => {
                 let lower = cache.lower(prepared, &path[..len], tip, nth, exit);
@@ -82,6 +78,7 @@ pub(crate) fn walk(
                     return made;
                 }
             }
+            // kept: (d) the four reasons of a cut, as the definition of the tree has them
             Outcome::GeneratorsState
             | Outcome::EnteredTooOften
             | Outcome::StepLimit

@@ -4,19 +4,14 @@ use mathlib.Core.Path.{◌≡◌, refl, sym, ap, ◌∙◌}
 use mathlib.Core.Bool.{true}
 use native.Mathlib.Omega.{arith}
 use borrow.Author.Rules.{rules}
-use Rattle.std.specs.Prelude.{take, Some, None}
+use Rattle.std.specs.Prelude.{Some, None}
 use Rattle.tree.specs.Tree.{is_death, is_continued}
-use Rattle.path.specs.Internal.Lent.{Lent, net_in}
-use Rattle.path.specs.Internal.Held.{lent_by}
 use Rattle.path.specs.Internal.Outcomes.{outcome_of}
-use Rattle.bounds.specs.Internal.Walk.{Asked, asked}
 use Rattle.path.proofs.DeathStems.{last_lower}
 use Rattle.rows.proofs.RowTotals.{names_then, marks_gathered}
-use Rattle.rows.specs.Internal.Table.{MarksNoted}
-use Rattle.bounds.specs.Internal.Marks.{asked_marks}
 use Rattle.bounds.proofs.WalkMarks.{closed_marked, upper_lost, marked_at}
-use Rattle.bounds.proofs.WalkLoop.{Held, held, exit_same, step_counted, ones_few, exit_ready, loop_start, loop_end, loop_over, ends_steps}
-use Rattle.bounds.proofs.WalkTurns.{turn_of, judged_as, is_cut, path_there, there_small, judge_figures, before_is, last_step, whole_known, mark_there}
+use Rattle.bounds.proofs.WalkLoop.{exit_same, step_counted, ones_few, exit_ready, loop_start, loop_end, loop_over, ends_steps}
+use Rattle.bounds.proofs.WalkTurns.{turn_of, judged_as, is_cut, there_small, judge_figures, before_is, last_step, whole_known, MarkedThere, mark_there}
 use Rattle.bounds.proofs.WalkTurns.{note_figures, death_noted, step_noted, cut_noted}
 use Rattle.bounds.proofs.WalkVisits.{visit_ended, before_fits, ready_there, visit_over, entries_back, path_back, visit_back}
 use Rattle.bounds.proofs.walk.+walk.Goals as goal
@@ -85,13 +80,9 @@ pub note_death-requires : goal.note_death-requires
 note_death-requires t c =
     let turn = turn_of c.args.prepared.now.filled c.requires c.loop-x.invariant
     (omega (arith, c.exits-leaving.ensures.len, c.loop-x-test.true)) c.if-made-task.false c.exits-leaving.ensures.value c.exit_at-exit.ensures in
-    let l : Lent = lent_by c.args.prepared.now in
-    let a : Asked = asked c.args.task c.args.tip c.args.left c.args.entered.now (take c.args.tip.len c.args.path.now) c.args.counts c.args.rows.now in
-    let h : Held = held c.loop-x.x-index c.loop-x.entered c.loop-x.path c.loop-x.made c.loop-x.cache c.loop-x.rows in
-    let x = c.exit_at-exit.result in
-    let mark : MarksNoted (asked_marks (Some c.lower-lower.result) (net_in l) (path_there l a h x) x.tip.upper c.loop-x.rows) c.loop-x.rows c.if-is_open.rows =
+    let mark : MarkedThere turn (Some c.lower-lower.result) c.if-is_open.rows =
     elim c.if-is_open.branch [
-      | then-is_open d ↦ mark_there turn (Some c.lower-lower.result) _ d.rows-is d.mark_ended.ensures
+      | then-is_open d ↦ mark_there turn (Some c.lower-lower.result) d.rows-is d.mark_ended.ensures
       | else-is_open d ↦ marked_at d.rows-is (closed_marked _ _ (sym c.is_open.ensures ∙ d.if-is_open.false))
     ] in
     let k = note_figures turn in (there_small turn, marks_gathered mark k.0, last_lower turn.filled (last_step turn) c.lower-lower.ensures.lower_value, k.1)
@@ -155,13 +146,9 @@ pub note_cut-requires : goal.note_cut-requires
 note_cut-requires t c =
     let turn = turn_of c.args.prepared.now.filled c.requires c.loop-x.invariant
     (omega (arith, c.exits-leaving.ensures.len, c.loop-x-test.true)) c.if-made-task.false c.exits-leaving.ensures.value c.exit_at-exit.ensures in
-    let l : Lent = lent_by c.args.prepared.now in
-    let a : Asked = asked c.args.task c.args.tip c.args.left c.args.entered.now (take c.args.tip.len c.args.path.now) c.args.counts c.args.rows.now in
-    let h : Held = held c.loop-x.x-index c.loop-x.entered c.loop-x.path c.loop-x.made c.loop-x.cache c.loop-x.rows in
-    let x = c.exit_at-exit.result in
-    let mark : MarksNoted (asked_marks None (net_in l) (path_there l a h x) x.tip.upper c.loop-x.rows) c.loop-x.rows c.if-rows.rows =
+    let mark : MarkedThere turn None c.if-rows.rows =
     elim c.if-rows.branch [
-      | then-rows d ↦ mark_there turn None _ d.rows-is d.mark_ended-then-rows.ensures
+      | then-rows d ↦ mark_there turn None d.rows-is d.mark_ended-then-rows.ensures
       | else-rows d ↦ marked_at d.rows-is (upper_lost _ _ d.if-rows.false refl)
     ] in
     let k = note_figures turn in (marks_gathered mark k.0, k.1)
@@ -171,17 +158,12 @@ loop-x-preserved t c =
     let turn = turn_of c.args.prepared.now.filled c.requires c.loop-x.invariant
     (omega (arith, c.exits-leaving.ensures.len, c.loop-x-test.true)) c.if-made-task.false c.exits-leaving.ensures.value c.exit_at-exit.ensures in
     let judged = judged_as c.judge-outcome.result turn c.is_named_end-named.ensures c.exit_count-exits.ensures.0 c.judge-outcome.ensures in
-    let l : Lent = lent_by c.args.prepared.now in
-    let a : Asked = asked c.args.task c.args.tip c.args.left c.args.entered.now (take c.args.tip.len c.args.path.now) c.args.counts c.args.rows.now in
-    let h : Held = held c.loop-x.x-index c.loop-x.entered c.loop-x.path c.loop-x.made c.loop-x.cache c.loop-x.rows in
-    let x = c.exit_at-exit.result in
     let o = c.judge-outcome.result in
     elim c.match-outcome.branch [
       | in-Death w ↦
-          let mark : MarksNoted (asked_marks (Some w.lower-lower.result) (net_in l) (path_there l a h x) x.tip.upper c.loop-x.rows) c.loop-x.rows
-          w.if-is_open.rows =
+          let mark : MarkedThere turn (Some w.lower-lower.result) w.if-is_open.rows =
           elim w.if-is_open.branch [
-            | then-is_open d ↦ mark_there turn (Some w.lower-lower.result) _ d.rows-is d.mark_ended.ensures
+            | then-is_open d ↦ mark_there turn (Some w.lower-lower.result) d.rows-is d.mark_ended.ensures
             | else-is_open d ↦ marked_at d.rows-is (closed_marked _ _ (sym w.is_open.ensures ∙ d.if-is_open.false))
           ] in
           let lower = rw (before_is turn) at w.lower-lower.ensures.lower_value in
@@ -198,9 +180,9 @@ loop-x-preserved t c =
           w.walk-made.ensures.path_same (search rules) w.walk-made.ensures.walked.counted w.walk-made.ensures.walked.names_kept w.if-task-made.false)
       | in-GeneratorsState w ↦
           let cut = is_cut w.in-GeneratorsState.is in
-          let mark : MarksNoted (asked_marks None (net_in l) (path_there l a h x) x.tip.upper c.loop-x.rows) c.loop-x.rows w.if-rows.rows =
+          let mark : MarkedThere turn None w.if-rows.rows =
           elim w.if-rows.branch [
-            | then-rows d ↦ mark_there turn None _ d.rows-is d.mark_ended-then-rows.ensures
+            | then-rows d ↦ mark_there turn None d.rows-is d.mark_ended-then-rows.ensures
             | else-rows d ↦ marked_at d.rows-is (upper_lost _ _ d.if-rows.false refl)
           ] in
           exit_same w.entered-is w.path-is w.made-is w.cache-is w.rows-is
