@@ -7,7 +7,8 @@ use Rattle.rows.proofs.table.RowTable.empty.Goals as goal
 pub returns : goal.returns
 unfolding totals_in
 returns c = record {
-  no_rows = refl; states_zero = refl;
+  no_rows = refl;
+  states_zero = refl;
   no_totals = record {
     lower_is = refl;
     death_is = refl;
