@@ -164,6 +164,7 @@ impl Text {
         self.with_all(label).with(item).with_byte(b'\n')
     }
 
+    // kept: (d) three lines here and three in `with_counts`, each as its definition has them: one function over both would be handed all labels and values.
     pub(crate) fn with_figures(self, lower: Figure, upper: Figure, cut: Figure) -> Self
         requires { Room self (figure_lines lower upper cut) }
         ensures { result ≡ self ++ figure_lines lower upper cut }
