@@ -13,7 +13,7 @@ use Rattle.figure.proofs.Sized.{sized-≤}
 use Rattle.word.specs.Model.{exits}
 use Rattle.model.specs.Internal.Valid.{Valid}
 use Rattle.model.specs.Index.{exits_at, exits_of, slot, exit_count}
-use Rattle.model.proofs.Slots.{slot_below, slot_leaves}
+use Rattle.model.proofs.Slots.{slot_below, slot_leaves, counts_few}
 use Rattle.tree.proofs.Positive.{ValidSteps}
 use Rattle.tree.proofs.Ranges.{any_upper_sized, class1_count-≤}
 use Rattle.tree.specs.Internal.Carried.{Carried}
@@ -100,6 +100,10 @@ module _ {l : Lent} {a : Asked} (filled : Filled l) (ready : Ready l a) where
 
   pub is_exit : {i : ℕ} → i < exit_count l.index a.tip.state → i < length (exits (net_in l) a.tip.state)
   is_exit h = omega (arith, count_is)
+
+  -- so many the slice of them has
+  pub leaving_counted : {n : ℕ} → (exit_count l.index a.tip.state ≤ 16 → n ≡ exit_count l.index a.tip.state) → n ≡ exit_count l.index a.tip.state
+  leaving_counted if_few = if_few (counts_few (model_in l) l.words l.index valid filled.indexes.indexed a.tip.state state_small)
 
   -- the exit i, as the slice of the state's exits has it
   pub exit_slot : {i : ℕ} {leaving : List ℕ} → i < exit_count l.index a.tip.state → leaving ≡ exits_of l.index a.tip.state

@@ -212,9 +212,11 @@ module _ {l : Lent} {a : Asked} {h : Held} {x : Exit} (w : Turn l a h x) where
       → MarksNoted (asked_marks low net (path_of net (take (a.tip.len + 1) written)) x.tip.upper h.rows) h.rows after → MarkedThere low rows
   mark_there low {after} e m = rw e (subst (λ p. MarksNoted (asked_marks low net p x.tip.upper h.rows) h.rows after) whole_path m)
 
+  pub before_known : Known net (take a.tip.len written)
+  before_known = rw before_is w.ready.known
+
   pub last_step : LastStep l (take a.tip.len written) a.tip x
   last_step = rw before_is (record {
-    known = w.ready.known;
     room = omega (arith, w.ready.length_is, room w.filled w.ready);
     ones_are = w.ready.carries.ones;
     index = index_below;

@@ -9,7 +9,7 @@ use path::counts::Counts;
 use path::deaths::Cache;
 use path::exits::{Tip, exit_at};
 use path::outcome::{Outcome, is_named_end, judge};
-use path::prepared::Prepared;
+use path::prepared::{Prepared, Walked};
 use rows::table::RowTable;
 
 // What stays the same in a walk, beside what was prepared: the prune level, the entry limit and the budget.
@@ -62,9 +62,17 @@ pub(crate) fn walk(
         let outcome = judge(named, exits, before, left - 1, upper, level, limit);
         match outcome {
             Outcome::Death => {
-                let lower = cache.lower(prepared, &path[..len], tip, nth, exit);
+                let before_it = Walked {
+                    prepared: &*prepared,
+                    path: &path[..len],
+                };
+                let lower = cache.lower(&before_it, tip, nth, exit);
                 if rows.is_open() {
-                    mark_ended(prepared, &path[..len + 1], Some(lower), upper, rows);
+                    let ended = Walked {
+                        prepared: &*prepared,
+                        path: &path[..len + 1],
+                    };
+                    mark_ended(&ended, Some(lower), upper, rows);
                 }
                 rows.note_death(to, lower, upper);
                 made = made.with_death();
@@ -84,7 +92,11 @@ pub(crate) fn walk(
             | Outcome::StepLimit
             | Outcome::LowLevel => {
                 if rows.upper_kept {
-                    mark_ended(prepared, &path[..len + 1], None, upper, rows);
+                    let ended = Walked {
+                        prepared: &*prepared,
+                        path: &path[..len + 1],
+                    };
+                    mark_ended(&ended, None, upper, rows);
                 }
                 rows.note_cut(upper);
                 made = made.with_cut();

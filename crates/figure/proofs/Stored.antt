@@ -106,7 +106,7 @@ module _ {p q : ℤ} (h : q ≤ℤ p) where
 
 -- ---- a test of the order of two powers
 
-turned : (p q : ℤ) → le_z q p ≡ false → T (le_z p q)
+pub turned : (p q : ℤ) → le_z q p ≡ false → T (le_z p q)
 turned (pos a) (pos b) h = le→leb a b (le_of_lt (leb-false b a h))
 turned (pos a) (negsuc b) h = absurd (true≢false h)
 turned (negsuc a) (pos b) h = tt

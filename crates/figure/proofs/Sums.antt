@@ -2,12 +2,13 @@
 -- last digit and the mark that more was left, settles it. Assumes nothing.
 use mathlib.Core.Path.{◌≡◌, refl, sym, ◌∙◌, ap, ap₂}
 use mathlib.Core.List.{[], ◌∷◌}
+use mathlib.Core.Bool.{Bool, true, false}
 use Prim.Native.Nat.{ℕ, zero, suc, ◌+◌, ◌*◌, ◌/◌, ◌%◌, ◌^◌, ◌≤◌, ◌<◌}
 use native.Mathlib.Nat.{lt_of_lt_of_le, mul-le-mul_right, mul-le-mul_left, zero-lt-suc, lt_irrefl, div-le_self, mod-lt, div-add-mod', pow-le-pow_right, pow-succ'}
 use native.Mathlib.Omega.{arith, P, patom}
-use lib.Dec.{ltb}
+use lib.Dec.{T, ltb}
 use lib.IntN.{ℤ, pos, nat_abs, ◌+ℤ◌, ◌-ℤ◌, -ℤ-+ℤ_cancel, +ℤ_comm}
-use lib.Signed.{◌≤ℤ◌}
+use lib.Signed.{le_z, ◌≤ℤ◌}
 use mir.Syntax.{w64}
 use mir.Val.{Fits}
 use borrow.Author.Tests.{lt-ltb}
@@ -20,11 +21,12 @@ use Rattle.figure.specs.declared.Figure.{Figure}
 use Rattle.figure.specs.declared.Direction.{Direction}
 use Rattle.figure.specs.declared.division.Part.{Part}
 use Rattle.figure.specs.Rounding.{value, IsFigure}
-use Rattle.figure.specs.Internal.Steps.{rounded, Digits, Ordered, Alignable, part, trimmed, gap_of, aligned_sum}
+use Rattle.figure.specs.Operands.{Sized}
+use Rattle.figure.specs.Internal.Steps.{rounded, Digits, Ordered, Alignable, in_order, part, trimmed, gap_of, aligned_sum}
 use Rattle.figure.proofs.Scale.{pow_pos}
 use Rattle.figure.proofs.Value.{val, value_is}
 use Rattle.figure.proofs.Operations.{value_plus}
-use Rattle.figure.proofs.Stored.{stored, kept, gap_pos}
+use Rattle.figure.proofs.Stored.{stored, kept, gap_pos, turned}
 use Rattle.figure.proofs.Parts.{parts, some, some_left, at_part, part_split, digits_fit}
 use Rattle.figure.proofs.PartsRounded.{Over, rounded_trimmed}
 use Rattle.figure.proofs.Figures.{digits_high, digits_low, rounded_own, rounded_same}
@@ -42,6 +44,32 @@ far_part n k h l = sym (at_part n (10 ^ k) 0 n (omega arith) below ∙ ap (parts
     below = lt_of_lt_of_le h (pow-le-pow_right (zero-lt-suc 9) {i = 18} {j = k} (omega arith))
 
 -- ---- two figures in order
+
+pub higher_first : (a b : Figure) → le_z b.power a.power ≡ true → (a, b) ≡ in_order a b
+unfolding in_order
+higher_first a b h = rw (h, in_order) refl
+
+pub lower_first : (a b : Figure) → le_z b.power a.power ≡ false → (b, a) ≡ in_order a b
+unfolding in_order
+lower_first a b h = rw (h, in_order) refl
+
+-- neither of two figures is zero
+module _ {K : ℕ} {a b : Figure} (sa : Sized K 200000 a) (sb : Sized K 200000 b) (na : a.digits ≡ 0 → ⊥) (nb : b.digits ≡ 0 → ⊥) where
+  pub ordered : {r : Figure × Figure} → r ≡ in_order a b → Ordered K r.0 r.1
+  ordered {r} e = by_test (le_z b.power a.power) refl
+    where
+      in_turn : (x y : Figure) → Sized K 200000 x → Sized K 200000 y → (x.digits ≡ 0 → ⊥) → (y.digits ≡ 0 → ⊥) → T (le_z y.power x.power) → Ordered K x y
+      in_turn x y sx sy nx ny h = record {
+        first = sx;
+        second = sy;
+        first_some = omega (arith, nx);
+        second_some = omega (arith, ny);
+        order = record { le = h };
+      }
+
+      by_test : (t : Bool) → le_z b.power a.power ≡ t → Ordered K r.0 r.1
+      by_test true h = rw (e ∙ sym (higher_first a b h)) (in_turn a b sa sb na nb (rw h tt))
+      by_test false h = rw (e ∙ sym (lower_first a b h)) (in_turn b a sb sa nb na (turned a.power b.power h))
 
 pub alignable : {K : ℕ} {a b : Figure} → Digits K → Ordered K a b → Alignable a b
 alignable k o = record {
@@ -142,6 +170,13 @@ module _ (to : Direction) {K : ℕ} (k : Digits K) where
       ∙ by_width (λ n. rounded to n (signed (val b ⊕ val a)) ≡ rounded to n (signed (val a ⊕ val b)))
       (λ w. rounded_same to w (⊕_comm (val b) (val a))) k
       ∙ ap (rounded to K) (sym (value_plus a b))
+
+  pub sum_in_order : (a b : Figure) {r : Figure × Figure} → r ≡ in_order a b → rounded to K (value r.0 +ᶠ value r.1) ≡ rounded to K (value a +ᶠ value b)
+  sum_in_order a b {r} e = by_test (le_z b.power a.power) refl
+    where
+      by_test : (t : Bool) → le_z b.power a.power ≡ t → rounded to K (value r.0 +ᶠ value r.1) ≡ rounded to K (value a +ᶠ value b)
+      by_test true h = rw (e ∙ sym (higher_first a b h)) refl
+      by_test false h = rw (e ∙ sym (lower_first a b h)) (sum_swap a b)
 
   pub nothing_added : (a b : Figure) → a.digits ≡ 0 → rounded to K (value b) ≡ rounded to K (value a +ᶠ value b)
   nothing_added a b z =

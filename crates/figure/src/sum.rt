@@ -3,7 +3,7 @@ ghost use Rattle.std.specs.Prelude.{◌≡◌, ◌^◌, ◌<◌};
 ghost use Rattle.fraction.specs.Fraction.{◌+ᶠ◌};
 ghost use Rattle.figure.specs.Rounding.{value};
 ghost use Rattle.figure.specs.Operands.{Sized};
-ghost use Rattle.figure.specs.Internal.Steps.{rounded, digits_of, Ordered, Alignable, part, aligned_sum};
+ghost use Rattle.figure.specs.Internal.Steps.{rounded, digits_of, Alignable, in_order, part, aligned_sum};
 
 use crate::division::{Part, Width};
 use crate::{Direction, Figure, powers};
@@ -19,19 +19,15 @@ pub(crate) fn plus(to: Direction, width: Width, a: Figure, b: Figure) -> Figure
     if b.digits == 0 {
         return a;
     }
-    if b.power <= a.power {
-        joined(to, width, a, b)
-    } else {
-        joined(to, width, b, a)
-    }
+    let (large, small) = in_order(a, b);
+    aligned(large, small).trimmed(to, width, large.power)
 }
 
-// The sum of two figures that are not zero, the power of the first not below that of the second.
-fn joined(to: Direction, width: Width, large: Figure, small: Figure) -> Figure
-    requires { Ordered (digits_of width) large small }
-    ensures { result ≡ rounded to (digits_of width) (value large +ᶠ value small) }
+// The two, the one with the higher power first.
+pub(crate) fn in_order(a: Figure, b: Figure) -> (Figure, Figure)
+    ensures { result ≡ in_order a b }
 {
-    aligned(large, small).trimmed(to, width, large.power)
+    if b.power <= a.power { (a, b) } else { (b, a) }
 }
 
 // The first, with what of the second reaches the first's last digit.

@@ -3,7 +3,7 @@ ghost use Rattle.std.specs.Prelude.{◌≡◌, ◌*◌};
 ghost use Rattle.fraction.specs.Fraction.{◌+ᶠ◌};
 ghost use Rattle.figure.specs.Rounding.{value};
 ghost use Rattle.figure.specs.Operands.{Operand};
-ghost use Rattle.figure.specs.Internal.Steps.{rounded, Ordered, widening};
+ghost use Rattle.figure.specs.Internal.Steps.{rounded, widening};
 
 use crate::division::{Part, Width};
 use crate::{Direction, Figure, sum};
@@ -44,18 +44,7 @@ pub(crate) fn sum_to_nine(to: Direction, t: Figure, s: Figure) -> Figure
     if s.digits == 0 {
         return to_nine(to, t);
     }
-    if s.power <= t.power {
-        joined(to, t, s)
-    } else {
-        joined(to, s, t)
-    }
-}
-
-// The sum of two totals that are not zero, the power of the first not below that of the second.
-fn joined(to: Direction, large: Figure, small: Figure) -> Figure
-    requires { Ordered 18 large small }
-    ensures { result ≡ rounded to 9 (value large +ᶠ value small) }
-{
+    let (large, small) = sum::in_order(t, s);
     let part = sum::aligned(large, small).shortened(1_000_000_000);
     part.trimmed(to, Width::Nine, large.power + 9)
 }

@@ -1,7 +1,6 @@
 -- The index of exits that reading fills into a lent value, the code's struct `Index`, and what its entries mean. The walk and its tables find a
 -- state's exits by it. Assumes nothing: these are definitions.
 use Rattle.std.specs.Prelude.{ℕ, suc, ◌+◌, ◌≤◌, ◌<◌, ◌≡◌, true, false, List, [], ◌∷◌, length, get_or, take, drop, replicate, eqb}
-use lib.Dec.{lit≤}
 use Rattle.word.specs.Model.{Manner, slow, fast, Transition, Net, Model, one_if, is_named, leaves, exits}
 use Rattle.word.specs.Words.{kind, from_field, to_field, quantity}
 use Rattle.model.specs.declared.exits.StateExits.{StateExits}
@@ -46,7 +45,7 @@ transition net j = get_or net.table j no_transition
 
 -- the exits of the state s; past the last state, none
 unfoldable pub no_exits : StateExits
-no_exits = record { slots = replicate 16 0; count = 0; named = false; few = lit≤ tt }
+no_exits = record { slots = replicate 16 0; count = 0; named = false }
 
 abbrev pub exits_at : Index → ℕ → StateExits
 exits_at index s = get_or index.states s no_exits

@@ -1,5 +1,5 @@
 // The exits of one state, as the index has them.
-ghost use Rattle.std.specs.Prelude.{◌≤◌};
+ghost use Rattle.std.specs.Prelude.{◌≤◌, ◌≡◌, length, take};
 
 // The numbers of a state's exits in the table stand in the first `count` slots; `named` says whether the state is one of the generator's.
 // kept: (a) an array and a count, since nothing is allocated
@@ -8,7 +8,6 @@ pub struct StateExits {
     pub slots: [u16; 16],
     pub count: u16,
     pub named: bool,
-    pub ghost few: { count ≤ 16 },
 }
 
 impl StateExits {
@@ -18,4 +17,12 @@ impl StateExits {
         count: 0,
         named: false,
     };
+
+    // Their numbers. Where more are counted than there are slots, as reading never does, it is all slots.
+    pub(crate) fn numbers(&self) -> &[u16]
+        ensures value { result.now ≡ take self.now.count self.now.slots }
+        ensures len { self.now.count ≤ 16 → length result.now ≡ self.now.count }
+    {
+        &self.slots[..usize::from(self.count).min(16)]
+    }
 }

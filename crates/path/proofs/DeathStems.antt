@@ -246,8 +246,8 @@ module _ {l : Lent} (filled : Filled l) {path : List ℕ} {tip : Tip} {exit : Ex
       rw (r-is, stem, last.leaves, f-is, g-is, n_is, last.class_is) (death_is net step before
       (λ first. omega (arith, last.ones_are, ap counts_1 first, class1_count_more net step before)))
 
-  pub last_lower : {f : Figure} → f ≡ lower net (step ∷ before) → Sized 9 35000 f
+  pub last_lower : Known net path → {f : Figure} → f ≡ lower net (step ∷ before) → Sized 9 35000 f
   unfolding Each
-  last_lower e =
+  last_lower known e =
       rw e (sized-≤ (lit≤ tt) (lower_sized last_valid (step ∷ before) (omega (arith, before_short))
-      ((step_valid last_valid last.index).manner, path_valid last_valid path last.known)))
+      ((step_valid last_valid last.index).manner, path_valid last_valid path known)))

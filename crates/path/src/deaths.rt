@@ -16,7 +16,7 @@ ghost use Rattle.path.specs.Internal.Deaths.{AnyStemSized, Cached, LastStep, Ste
 
 use crate::exits::{Exit, Tip};
 use crate::lower::{Spent, last_factor, product, spent_on};
-use crate::prepared::{Prepared, Walked};
+use crate::prepared::Walked;
 use figure::{Arithmetic, Direction, Figure};
 use tables::class::Class;
 
@@ -56,14 +56,14 @@ pub(crate) fn stem_of<A: Arithmetic>(walked: &Walked, spent: Spent<A>) -> Option
 
 // The stem of the death by `exit` after the path that ends at the tip, worked out along the path.
 // kept: (d) the path, its tip and the exit apart: this function and `Cache::lower` alone take the three.
-fn new_stem(prepared: &Prepared, path: &[u16], tip: Tip, exit: Exit) -> Option<Stem<Figure>>
-    requires { LastStep (lent_by prepared.now) path.now tip exit }
-    ensures stem_is { result ≡ stem_for (net_of prepared.now.words.now) path.now tip exit }
+fn new_stem(walked: &Walked, tip: Tip, exit: Exit) -> Option<Stem<Figure>>
+    requires { LastStep (lent_by walked.now.prepared.now) walked.now.path.now tip exit }
+    ensures stem_is { result ≡ stem_for (net_of walked.now.prepared.now.words.now) walked.now.path.now tip exit }
     ensures stem_sized { AnyStemSized result }
 {
+    let prepared = walked.prepared;
     let j = usize::from(exit.index);
-    let walked = Walked { prepared, path };
-    let mut spent: Spent<Figure> = spent_on(&walked);
+    let mut spent: Spent<Figure> = spent_on(walked);
     if exit.class.is_class1() {
         spent.rates = spent
             .rates
@@ -72,7 +72,7 @@ fn new_stem(prepared: &Prepared, path: &[u16], tip: Tip, exit: Exit) -> Option<S
     } else {
         spent.grains += prepared.grains(j);
     }
-    stem_of(&walked, spent)
+    stem_of(walked, spent)
 }
 
 // The lower of a death path from its stem, its last step being of a class, with its share and factor; it is the nth of class 1 if it is of class 1.
@@ -114,29 +114,29 @@ impl Cache {
     // deaths that follow.
     pub fn lower(
         &mut self,
-        prepared: &Prepared,
-        path: &[u16],
+        walked: &Walked,
         tip: Tip,
         nth: Figure,
         exit: Exit,
     ) -> Figure
-        requires last_step { LastStep (lent_by prepared.now) path.now tip exit × (nth ≡ ops.of_whole (tip.ones + 1)) }
-        requires cached { Cached (net_of prepared.now.words.now) (path_of (net_of prepared.now.words.now) path.now) tip.state self.old }
-        ensures lower_value { result ≡ bound.lower (net_of prepared.now.words.now) (transition (net_of prepared.now.words.now) exit.index ∷ path_of (net_of prepared.now.words.now) path.now) }
-        ensures cached_still { Cached (net_of prepared.now.words.now) (path_of (net_of prepared.now.words.now) path.now) tip.state self.new }
+        requires last_step { LastStep (lent_by walked.now.prepared.now) walked.now.path.now tip exit × (nth ≡ ops.of_whole (tip.ones + 1)) }
+        requires cached { Cached (net_of walked.now.prepared.now.words.now) (path_of (net_of walked.now.prepared.now.words.now) walked.now.path.now) tip.state self.old }
+        ensures lower_value { result ≡ bound.lower (net_of walked.now.prepared.now.words.now) (transition (net_of walked.now.prepared.now.words.now) exit.index ∷ path_of (net_of walked.now.prepared.now.words.now) walked.now.path.now) }
+        ensures cached_still { Cached (net_of walked.now.prepared.now.words.now) (path_of (net_of walked.now.prepared.now.words.now) walked.now.path.now) tip.state self.new }
     {
+        let prepared = walked.prepared;
         let j = usize::from(exit.index);
         let share = prepared.share(j);
         let factor = prepared.factor(j);
         if !exit.class.is_slow() {
-            let stem = new_stem(prepared, path, tip, exit);
+            let stem = new_stem(walked, tip, exit);
             return lower_of(&stem, exit.class, share, factor, nth);
         }
         // kept: (c) tried as `get_or_insert_with` with a closure: of its `F.post` the proof was given nothing, so not which stem the cache has then.
         match &self.slow {
             Some(kept) => lower_of(kept, exit.class, share, factor, nth),
             None => {
-                let stem = new_stem(prepared, path, tip, exit);
+                let stem = new_stem(walked, tip, exit);
                 self.slow = Some(stem);
                 lower_of(&stem, exit.class, share, factor, nth)
             }

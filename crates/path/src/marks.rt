@@ -3,23 +3,23 @@
 ghost use Rattle.std.specs.Prelude.{◌≡◌, []};
 ghost use Rattle.tree.specs.Marks as marks;
 ghost use Rattle.tables.specs.Internal.Described.{net_of};
-ghost use Rattle.path.specs.Internal.Paths.{Known, path_of};
+ghost use Rattle.path.specs.Internal.Paths.{path_of};
 
 use crate::deaths::stem_of;
 use crate::exits::further;
 use crate::lower::{Spent, spent_on};
-use crate::prepared::{Prepared, Walked};
+use crate::prepared::Walked;
 use figure::{Arithmetic, Direction, Figure, Rounded};
 
 // The mark of the upper of a path.
-pub fn upper_kept(prepared: &Prepared, path: &[u16]) -> bool
-    requires { Known (net_of prepared.now.words.now) path.now }
-    ensures { result ≡ marks.upper_kept (net_of prepared.now.words.now) (path_of (net_of prepared.now.words.now) path.now) }
+pub fn upper_kept(walked: &Walked) -> bool
+    ensures { result ≡ marks.upper_kept (net_of walked.now.prepared.now.words.now) (path_of (net_of walked.now.prepared.now.words.now) walked.now.path.now) }
 {
+    let prepared = walked.prepared;
     let time = Rounded::exact(prepared.time);
     let mut upper = Rounded::exact(Figure::of_whole(1));
     let mut ones: u64 = 0;
-    for &x in path {
+    for &x in walked.path {
         let j = usize::from(x);
         let step = prepared.leaving(j);
         let nth = Rounded::exact(Figure::of_whole(ones + 1));
@@ -42,14 +42,12 @@ fn grains_kept(walked: &Walked) -> bool
 }
 
 // The mark of the lower of a path. Where N' fills the mission time, only the grains count.
-pub fn lower_kept(prepared: &Prepared, path: &[u16]) -> bool
-    requires { Known (net_of prepared.now.words.now) path.now }
-    ensures { result ≡ marks.lower_kept (net_of prepared.now.words.now) (path_of (net_of prepared.now.words.now) path.now) }
+pub fn lower_kept(walked: &Walked) -> bool
+    ensures { result ≡ marks.lower_kept (net_of walked.now.prepared.now.words.now) (path_of (net_of walked.now.prepared.now.words.now) walked.now.path.now) }
 {
-    let walked = Walked { prepared, path };
-    let kept = grains_kept(&walked);
-    let spent: Spent<Rounded> = spent_on(&walked);
-    match stem_of(&walked, spent) {
+    let kept = grains_kept(walked);
+    let spent: Spent<Rounded> = spent_on(walked);
+    match stem_of(walked, spent) {
         None => kept,
         Some(stem) => {
             let lower = stem.product.times(stem.last, Direction::Down);

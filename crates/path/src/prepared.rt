@@ -27,7 +27,7 @@ pub struct Prepared<'a> {
 
 // A path of the model, its steps being entries of the index.
 #[derive(Clone, Copy)]
-pub(crate) struct Walked<'a> {
+pub struct Walked<'a> {
     pub prepared: &'a Prepared<'a>,
     pub path: &'a [u16],
     pub ghost known: { Known (net_of prepared.now.words.now) path.now } by { Prim.hlevel (props, known_prop) },

@@ -8,7 +8,7 @@ use Rattle.word.specs.Model.{exits}
 use Rattle.model.specs.declared.index.Index.{Index}
 use Rattle.model.specs.Index.{Stands, exit_count, exits_of, place_of, slot, no_transition, transition}
 use Rattle.word.proofs.Parts.{part_from}
-use Rattle.model.proofs.Slots.{exits_slot, slot_below, slot_exit, stands_inside}
+use Rattle.model.proofs.Slots.{exits_slot, slot_below, slot_exit, stands_inside, counts_few}
 use Rattle.tables.specs.Internal.Described.{Indexes, StandsFirst, described, net_of}
 use Rattle.tables.proofs.Classes.{step_valid}
 use Rattle.tables.proofs.Firsts.{part_at}
@@ -31,7 +31,10 @@ module _ {ws : List ℕ} {index : Index} (h : Indexes ws index) {j : ℕ} (insid
 -- ---- from a state
 
 module _ {ws : List ℕ} {index : Index} (h : Indexes ws index) {s : ℕ} (low : s ≤ 1000) {numbers : List ℕ} (are : numbers ≡ exits_of index s)
-    (count : length numbers ≡ exit_count index s) where
+    (if_few : exit_count index s ≤ 16 → length numbers ≡ exit_count index s) where
+  count : length numbers ≡ exit_count index s
+  count = if_few (counts_few (described ws) ws index h.valid h.indexed s low)
+
   pub count_is : length numbers ≡ length (exits (net_of ws) s)
   count_is = count ∙ h.indexed.counts_are s low
 

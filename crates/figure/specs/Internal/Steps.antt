@@ -1,7 +1,7 @@
 -- The steps that the crate's private functions take, as their contracts name them. No public contract cites this page. Assumes nothing: these
 -- are definitions.
 use Rattle.std.specs.Prelude.{true, false, not, ◌||◌, ℕ, zero, suc, ◌+◌, ◌-◌, ◌*◌, ◌/◌, ◌^◌, ◌≤◌, ◌<◌, ltb, eqb, ℤ, pos, nat_abs, ◌+ℤ◌, ◌-ℤ◌, ◌≤ℤ◌}
-use Rattle.std.specs.Int.Signed.{mag}
+use Rattle.std.specs.Int.Signed.{mag, le_z}
 use Rattle.fraction.specs.Fraction.{Fraction}
 use Rattle.figure.specs.declared.Figure.{Figure}
 use Rattle.figure.specs.declared.Direction.{Direction}
@@ -68,6 +68,10 @@ pub record Alignable (a b : Figure) : Type 0 where
   pub first_near : mag a.power ≤ 200000
   pub second_near : mag b.power ≤ 200000
   pub order : b.power ≤ℤ a.power
+
+-- two figures, the one with the higher power first
+unfoldable pub in_order : Figure → Figure → Figure × Figure
+in_order a b = elim (le_z b.power a.power) [ true ↦ (a, b) | false ↦ (b, a) ]
 
 -- the sum of a and b in units of a's power, where b's power is not above it
 unfoldable pub aligned_sum : Figure → Figure → Part

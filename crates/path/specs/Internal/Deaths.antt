@@ -20,11 +20,10 @@ use Rattle.path.specs.declared.deaths.Stem.{Stem}
 use Rattle.path.specs.declared.deaths.Cache.{Cache}
 use Rattle.path.specs.Internal.Lent.{Lent, net_in}
 use Rattle.path.specs.Internal.Marks.{last_of, last_of_kept}
-use Rattle.path.specs.Internal.Paths.{path_of, Known, own_grains, step_class}
+use Rattle.path.specs.Internal.Paths.{path_of, own_grains, step_class}
 
 -- A last step: the exit of the tip's state, after the path that ends at the tip.
 pub record LastStep (l : Lent) (path : List ℕ) (tip : Tip) (exit : Exit) : Type 0 where
-  pub known : Known (net_in l) path
   pub room : length path < 24
   pub ones_are : tip.ones ≡ class1_count (net_in l) (path_of (net_in l) path)
   pub index : exit.index < length (net_in l).table

@@ -10,8 +10,8 @@ use Rattle.path.specs.Internal.Outcomes.{outcome_of}
 use Rattle.path.proofs.DeathStems.{last_lower}
 use Rattle.rows.proofs.RowTotals.{names_then, marks_gathered}
 use Rattle.bounds.proofs.WalkMarks.{closed_marked, upper_lost, marked_at}
-use Rattle.bounds.proofs.WalkLoop.{exit_same, step_counted, ones_few, exit_ready, loop_start, loop_end, loop_over, ends_steps}
-use Rattle.bounds.proofs.WalkTurns.{turn_of, judged_as, is_cut, there_small, judge_figures, before_is, last_step, whole_known, MarkedThere, mark_there}
+use Rattle.bounds.proofs.WalkLoop.{exit_same, step_counted, ones_few, exit_ready, leaving_counted, loop_start, loop_end, loop_over, ends_steps}
+use Rattle.bounds.proofs.WalkTurns.{turn_of, judged_as, is_cut, there_small, judge_figures, before_is, last_step, before_known, whole_known, MarkedThere, mark_there}
 use Rattle.bounds.proofs.WalkTurns.{note_figures, death_noted, step_noted, cut_noted}
 use Rattle.bounds.proofs.WalkVisits.{visit_ended, before_fits, ready_there, visit_over, entries_back, path_back, visit_back}
 use Rattle.bounds.proofs.walk.+walk.Goals as goal
@@ -26,7 +26,7 @@ loop-x-init t c = loop_start c.args.prepared.now.filled c.requires (search rules
 pub returns-then-made-task-clause-walked : goal.returns-then-made-task-clause-walked
 returns-then-made-task-clause-walked t c =
     let ends = loop_over c.args.prepared.now.filled c.requires c.loop-x.invariant
-    (omega (arith, c.exits-leaving.ensures.len, c.loop-x-test.true)) c.if-made-task.true c.with_step.ensures in record {
+    (omega (arith, leaving_counted c.args.prepared.now.filled c.requires c.exits-leaving.ensures.len, c.loop-x-test.true)) c.if-made-task.true c.with_step.ensures in record {
       ends = ends;
       counted = step_counted c.with_step.ensures c.loop-x.invariant.counted;
       names_kept = c.loop-x.invariant.names_kept;
@@ -35,63 +35,69 @@ returns-then-made-task-clause-walked t c =
 
 pub exit_at-exit-requires : goal.exit_at-exit-requires
 exit_at-exit-requires t c = (
-  exit_ready c.args.prepared.now.filled c.requires (omega (arith, c.exits-leaving.ensures.len, c.loop-x-test.true)) c.exits-leaving.ensures.value,
+  exit_ready c.args.prepared.now.filled c.requires (omega (arith, leaving_counted c.args.prepared.now.filled c.requires c.exits-leaving.ensures.len, c.loop-x-test.true)) c.exits-leaving.ensures.value,
   c.of_whole-nth.ensures,
 )
 
 pub bounds-entered-to : goal.bounds-entered-to
 bounds-entered-to t c =
     let turn = turn_of c.args.prepared.now.filled c.requires c.loop-x.invariant
-    (omega (arith, c.exits-leaving.ensures.len, c.loop-x-test.true)) c.if-made-task.false c.exits-leaving.ensures.value c.exit_at-exit.ensures in
+    (omega (arith, leaving_counted c.args.prepared.now.filled c.requires c.exits-leaving.ensures.len, c.loop-x-test.true)) c.if-made-task.false c.exits-leaving.ensures.value c.exit_at-exit.ensures in
     let h = there_small turn in omega arith
 
 pub exit_count-exits-requires : goal.exit_count-exits-requires
 exit_count-exits-requires t c =
     let turn = turn_of c.args.prepared.now.filled c.requires c.loop-x.invariant
-    (omega (arith, c.exits-leaving.ensures.len, c.loop-x-test.true)) c.if-made-task.false c.exits-leaving.ensures.value c.exit_at-exit.ensures in
+    (omega (arith, leaving_counted c.args.prepared.now.filled c.requires c.exits-leaving.ensures.len, c.loop-x-test.true)) c.if-made-task.false c.exits-leaving.ensures.value c.exit_at-exit.ensures in
     there_small turn
 
 pub is_named_end-named-requires : goal.is_named_end-named-requires
 is_named_end-named-requires t c =
     let turn = turn_of c.args.prepared.now.filled c.requires c.loop-x.invariant
-    (omega (arith, c.exits-leaving.ensures.len, c.loop-x-test.true)) c.if-made-task.false c.exits-leaving.ensures.value c.exit_at-exit.ensures in
+    (omega (arith, leaving_counted c.args.prepared.now.filled c.requires c.exits-leaving.ensures.len, c.loop-x-test.true)) c.if-made-task.false c.exits-leaving.ensures.value c.exit_at-exit.ensures in
     there_small turn
 
 pub judge-outcome-requires : goal.judge-outcome-requires
 judge-outcome-requires t c =
     let turn = turn_of c.args.prepared.now.filled c.requires c.loop-x.invariant
-    (omega (arith, c.exits-leaving.ensures.len, c.loop-x-test.true)) c.if-made-task.false c.exits-leaving.ensures.value c.exit_at-exit.ensures in
+    (omega (arith, leaving_counted c.args.prepared.now.filled c.requires c.exits-leaving.ensures.len, c.loop-x-test.true)) c.if-made-task.false c.exits-leaving.ensures.value c.exit_at-exit.ensures in
     judge_figures turn
 
 pub lower-lower-requires : goal.lower-lower-requires
 lower-lower-requires t c =
     let turn = turn_of c.args.prepared.now.filled c.requires c.loop-x.invariant
-    (omega (arith, c.exits-leaving.ensures.len, c.loop-x-test.true)) c.if-made-task.false c.exits-leaving.ensures.value c.exit_at-exit.ensures in
+    (omega (arith, leaving_counted c.args.prepared.now.filled c.requires c.exits-leaving.ensures.len, c.loop-x-test.true)) c.if-made-task.false c.exits-leaving.ensures.value c.exit_at-exit.ensures in
     record { last_step = (last_step turn, c.of_whole-nth.ensures); cached = rw (before_is turn) turn.kept.cached }
+
+pub invariant_of-ended : goal.invariant_of-ended
+invariant_of-ended t c =
+    let turn = turn_of c.args.prepared.now.filled c.requires c.loop-x.invariant
+    (omega (arith, leaving_counted c.args.prepared.now.filled c.requires c.exits-leaving.ensures.len, c.loop-x-test.true)) c.if-made-task.false c.exits-leaving.ensures.value c.exit_at-exit.ensures in
+    record { known = whole_known turn }
 
 pub mark_ended-requires : goal.mark_ended-requires
 mark_ended-requires t c =
     let turn = turn_of c.args.prepared.now.filled c.requires c.loop-x.invariant
-    (omega (arith, c.exits-leaving.ensures.len, c.loop-x-test.true)) c.if-made-task.false c.exits-leaving.ensures.value c.exit_at-exit.ensures in
+    (omega (arith, leaving_counted c.args.prepared.now.filled c.requires c.exits-leaving.ensures.len, c.loop-x-test.true)) c.if-made-task.false c.exits-leaving.ensures.value c.exit_at-exit.ensures in
     let k = note_figures turn in
-    record { known = whole_known turn; gathered = (k.0, last_lower turn.filled (last_step turn) c.lower-lower.ensures.lower_value, k.1) }
+    (k.0, last_lower turn.filled (last_step turn) (before_known turn) c.lower-lower.ensures.lower_value, k.1)
 
 pub note_death-requires : goal.note_death-requires
 note_death-requires t c =
     let turn = turn_of c.args.prepared.now.filled c.requires c.loop-x.invariant
-    (omega (arith, c.exits-leaving.ensures.len, c.loop-x-test.true)) c.if-made-task.false c.exits-leaving.ensures.value c.exit_at-exit.ensures in
+    (omega (arith, leaving_counted c.args.prepared.now.filled c.requires c.exits-leaving.ensures.len, c.loop-x-test.true)) c.if-made-task.false c.exits-leaving.ensures.value c.exit_at-exit.ensures in
     let mark : MarkedThere turn (Some c.lower-lower.result) c.if-is_open.rows =
     elim c.if-is_open.branch [
       | then-is_open d ↦ mark_there turn (Some c.lower-lower.result) d.rows-is d.mark_ended.ensures
       | else-is_open d ↦ marked_at d.rows-is (closed_marked _ _ (sym c.is_open.ensures ∙ d.if-is_open.false))
     ] in
-    let k = note_figures turn in (there_small turn, marks_gathered mark k.0, last_lower turn.filled (last_step turn) c.lower-lower.ensures.lower_value, k.1)
+    let k = note_figures turn in (there_small turn, marks_gathered mark k.0, last_lower turn.filled (last_step turn) (before_known turn) c.lower-lower.ensures.lower_value, k.1)
 
 pub overflow_add-entered : goal.overflow_add-entered
 overflow_add-entered t c =
     let on : is_continued (outcome_of c.judge-outcome.result) ≡ true = ap (λ o. is_continued (outcome_of o)) c.in-Continued.is in
     let turn = turn_of c.args.prepared.now.filled c.requires c.loop-x.invariant
-    (omega (arith, c.exits-leaving.ensures.len, c.loop-x-test.true)) c.if-made-task.false c.exits-leaving.ensures.value c.exit_at-exit.ensures in
+    (omega (arith, leaving_counted c.args.prepared.now.filled c.requires c.exits-leaving.ensures.len, c.loop-x-test.true)) c.if-made-task.false c.exits-leaving.ensures.value c.exit_at-exit.ensures in
     let judged = judged_as c.judge-outcome.result turn c.is_named_end-named.ensures c.exit_count-exits.ensures.0 c.judge-outcome.ensures in
     let visited = step_noted turn c.judge-outcome.result judged on c.with_step-so_far.ensures in
     omega (arith, before_fits visited on)
@@ -99,14 +105,14 @@ overflow_add-entered t c =
 pub bounds-entered-to-in-Continued : goal.bounds-entered-to-in-Continued
 bounds-entered-to-in-Continued t c =
     let turn = turn_of c.args.prepared.now.filled c.requires c.loop-x.invariant
-    (omega (arith, c.exits-leaving.ensures.len, c.loop-x-test.true)) c.if-made-task.false c.exits-leaving.ensures.value c.exit_at-exit.ensures in
+    (omega (arith, leaving_counted c.args.prepared.now.filled c.requires c.exits-leaving.ensures.len, c.loop-x-test.true)) c.if-made-task.false c.exits-leaving.ensures.value c.exit_at-exit.ensures in
     let h = there_small turn in omega arith
 
 pub walk-made-requires : goal.walk-made-requires
 walk-made-requires t c =
     let on : is_continued (outcome_of c.judge-outcome.result) ≡ true = ap (λ o. is_continued (outcome_of o)) c.in-Continued.is in
     let turn = turn_of c.args.prepared.now.filled c.requires c.loop-x.invariant
-    (omega (arith, c.exits-leaving.ensures.len, c.loop-x-test.true)) c.if-made-task.false c.exits-leaving.ensures.value c.exit_at-exit.ensures in
+    (omega (arith, leaving_counted c.args.prepared.now.filled c.requires c.exits-leaving.ensures.len, c.loop-x-test.true)) c.if-made-task.false c.exits-leaving.ensures.value c.exit_at-exit.ensures in
     let judged = judged_as c.judge-outcome.result turn c.is_named_end-named.ensures c.exit_count-exits.ensures.0 c.judge-outcome.ensures in
     let visited = step_noted turn c.judge-outcome.result judged on c.with_step-so_far.ensures in
     (omega (arith, turn.ready.more), ready_there visited on)
@@ -114,14 +120,14 @@ walk-made-requires t c =
 pub bounds-entered-to-in-Continued-2 : goal.bounds-entered-to-in-Continued-2
 bounds-entered-to-in-Continued-2 t c =
     let turn = turn_of c.args.prepared.now.filled c.requires c.loop-x.invariant
-    (omega (arith, c.exits-leaving.ensures.len, c.loop-x-test.true)) c.if-made-task.false c.exits-leaving.ensures.value c.exit_at-exit.ensures in
+    (omega (arith, leaving_counted c.args.prepared.now.filled c.requires c.exits-leaving.ensures.len, c.loop-x-test.true)) c.if-made-task.false c.exits-leaving.ensures.value c.exit_at-exit.ensures in
     let h = there_small turn in omega arith
 
 pub returns-then-task-made : goal.returns-then-task-made
 returns-then-task-made t c =
     let on : is_continued (outcome_of c.judge-outcome.result) ≡ true = ap (λ o. is_continued (outcome_of o)) c.in-Continued.is in
     let turn = turn_of c.args.prepared.now.filled c.requires c.loop-x.invariant
-    (omega (arith, c.exits-leaving.ensures.len, c.loop-x-test.true)) c.if-made-task.false c.exits-leaving.ensures.value c.exit_at-exit.ensures in
+    (omega (arith, leaving_counted c.args.prepared.now.filled c.requires c.exits-leaving.ensures.len, c.loop-x-test.true)) c.if-made-task.false c.exits-leaving.ensures.value c.exit_at-exit.ensures in
     let judged = judged_as c.judge-outcome.result turn c.is_named_end-named.ensures c.exit_count-exits.ensures.0 c.judge-outcome.ensures in
     let visited = step_noted turn c.judge-outcome.result judged on c.with_step-so_far.ensures in
     let ends = visit_over visited on _ c.walk-made.ensures.walked.ends c.if-task-made.true in
@@ -136,16 +142,22 @@ returns-then-task-made t c =
       path_same = path_back visited on _ c.walk-made.ensures.path_same;
     }
 
+pub invariant_of-ended-then-rows : goal.invariant_of-ended-then-rows
+invariant_of-ended-then-rows t c =
+    let turn = turn_of c.args.prepared.now.filled c.requires c.loop-x.invariant
+    (omega (arith, leaving_counted c.args.prepared.now.filled c.requires c.exits-leaving.ensures.len, c.loop-x-test.true)) c.if-made-task.false c.exits-leaving.ensures.value c.exit_at-exit.ensures in
+    record { known = whole_known turn }
+
 pub mark_ended-requires-then-rows : goal.mark_ended-requires-then-rows
 mark_ended-requires-then-rows t c =
     let turn = turn_of c.args.prepared.now.filled c.requires c.loop-x.invariant
-    (omega (arith, c.exits-leaving.ensures.len, c.loop-x-test.true)) c.if-made-task.false c.exits-leaving.ensures.value c.exit_at-exit.ensures in
-    let k = note_figures turn in record { known = whole_known turn; gathered = (k.0, tt, k.1) }
+    (omega (arith, leaving_counted c.args.prepared.now.filled c.requires c.exits-leaving.ensures.len, c.loop-x-test.true)) c.if-made-task.false c.exits-leaving.ensures.value c.exit_at-exit.ensures in
+    let k = note_figures turn in (k.0, tt, k.1)
 
 pub note_cut-requires : goal.note_cut-requires
 note_cut-requires t c =
     let turn = turn_of c.args.prepared.now.filled c.requires c.loop-x.invariant
-    (omega (arith, c.exits-leaving.ensures.len, c.loop-x-test.true)) c.if-made-task.false c.exits-leaving.ensures.value c.exit_at-exit.ensures in
+    (omega (arith, leaving_counted c.args.prepared.now.filled c.requires c.exits-leaving.ensures.len, c.loop-x-test.true)) c.if-made-task.false c.exits-leaving.ensures.value c.exit_at-exit.ensures in
     let mark : MarkedThere turn None c.if-rows.rows =
     elim c.if-rows.branch [
       | then-rows d ↦ mark_there turn None d.rows-is d.mark_ended-then-rows.ensures
@@ -156,7 +168,7 @@ note_cut-requires t c =
 pub loop-x-preserved : goal.loop-x-preserved
 loop-x-preserved t c =
     let turn = turn_of c.args.prepared.now.filled c.requires c.loop-x.invariant
-    (omega (arith, c.exits-leaving.ensures.len, c.loop-x-test.true)) c.if-made-task.false c.exits-leaving.ensures.value c.exit_at-exit.ensures in
+    (omega (arith, leaving_counted c.args.prepared.now.filled c.requires c.exits-leaving.ensures.len, c.loop-x-test.true)) c.if-made-task.false c.exits-leaving.ensures.value c.exit_at-exit.ensures in
     let judged = judged_as c.judge-outcome.result turn c.is_named_end-named.ensures c.exit_count-exits.ensures.0 c.judge-outcome.ensures in
     let o = c.judge-outcome.result in
     elim c.match-outcome.branch [
@@ -170,7 +182,7 @@ loop-x-preserved t c =
           exit_same w.entered-is w.path-is w.made-is w.cache-is w.rows-is
           (visit_ended
           (death_noted turn o judged (ap (λ o. is_death (outcome_of o)) w.in-Death.is)
-          (last_lower turn.filled (last_step turn) w.lower-lower.ensures.lower_value)
+          (last_lower turn.filled (last_step turn) (before_known turn) w.lower-lower.ensures.lower_value)
           lower w.with_death-made.ensures mark w.note_death.ensures (rw (before_is turn) at w.lower-lower.ensures.cached_still))
           (ap (λ o. is_continued (outcome_of o)) w.in-Death.is))
       | in-Continued+else-task-made w ↦
@@ -191,7 +203,7 @@ loop-x-preserved t c =
 
 pub returns-clause-walked : goal.returns-clause-walked
 returns-clause-walked t c =
-    let ends = loop_end c.args.prepared.now.filled c.requires c.loop-x.invariant (omega (arith, c.exits-leaving.ensures.len, c.loop-x-test.false)) in
+    let ends = loop_end c.args.prepared.now.filled c.requires c.loop-x.invariant (omega (arith, leaving_counted c.args.prepared.now.filled c.requires c.exits-leaving.ensures.len, c.loop-x-test.false)) in
     record {
       ends = ends;
       counted = c.loop-x.invariant.counted;

@@ -13,7 +13,7 @@ use Rattle.model.proofs.probabilities.fast_sum.Goals.{then-is_fast, else-is_fast
 pub loop-j-preserved : goal.loop-j-preserved
 loop-j-preserved c =
     let i = c.loop-j.j-index in
-    let more : i < exit_count c.args.index.now c.args.s = omega (arith, c.loop-j-test.true, c.exits-j-items.ensures.len) in
+    let more : i < exit_count c.args.index.now c.args.s = omega (arith, c.loop-j-test.true, c.exits-j-items.ensures.len c.requires.few) in
     let at_is : c.place_of-at.result ≡ slot_place c.args.index.now c.args.s i = c.place_of-at.ensures.0 ∙ ap (place_of c.args.index.now)
     (c.from.ensures ∙ ap (λ (l : List ℕ). get_or l i 0) c.exits-j-items.ensures.value ∙ exits_slot c.args.index.now c.args.s i more) in
     let turn : Summed (slot_transitions c.args.words.now c.args.index.now c.args.s)
@@ -28,5 +28,5 @@ loop-j-preserved c =
 
 pub returns : goal.returns
 returns c =
-    let none : exit_count c.args.index.now c.args.s ≤ c.loop-j.j-index = omega (arith, c.loop-j-test.false, c.exits-j-items.ensures.len) in
+    let none : exit_count c.args.index.now c.args.s ≤ c.loop-j.j-index = omega (arith, c.loop-j-test.false, c.exits-j-items.ensures.len c.requires.few) in
     summed_all _ c.loop-j.j-index c.loop-j.sum (rw (along_none _ (exit_count c.args.index.now c.args.s) c.loop-j.j-index none) at c.loop-j.invariant)

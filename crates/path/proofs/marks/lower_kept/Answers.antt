@@ -8,15 +8,15 @@ use Rattle.path.proofs.marks.lower_kept.Goals as goal
 
 pub stem_of-requires : goal.stem_of-requires
 stem_of-requires c = (
-  rw c.spent_on-spent.ensures.rates_value (sized-≤ (lit≤ tt) (rates_fine c.args.prepared.now.filled.indexes.valid c.requires)),
-  ones_few c.requires c.spent_on-spent.ensures.ones_value,
+  rw c.spent_on-spent.ensures.rates_value (sized-≤ (lit≤ tt) (rates_fine c.args.walked.now.prepared.now.filled.indexes.valid c.args.walked.now.known)),
+  ones_few c.args.walked.now.known c.spent_on-spent.ensures.ones_value,
 )
 
 pub times-lower-requires : goal.times-lower-requires
 times-lower-requires c =
-    let parts = rw c.in-Some.is at (c.stem_of.ensures _ _ c.spent_on-spent.ensures.rates_value) in let valid = c.args.prepared.now.filled.indexes.valid in (
-      product_part_fine valid c.requires parts,
-      last_part_fine valid c.requires (ones_few c.requires c.spent_on-spent.ensures.ones_value) parts,
+    let parts = rw c.in-Some.is at (c.stem_of.ensures _ _ c.spent_on-spent.ensures.rates_value) in let valid = c.args.walked.now.prepared.now.filled.indexes.valid in (
+      product_part_fine valid c.args.walked.now.known parts,
+      last_part_fine valid c.args.walked.now.known (ones_few c.args.walked.now.known c.spent_on-spent.ensures.ones_value) parts,
     )
 
 pub returns-in-None : goal.returns-in-None

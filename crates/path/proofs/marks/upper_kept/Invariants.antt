@@ -5,4 +5,4 @@ use Rattle.path.proofs.UpperMarks.{UpperSoFar}
 use Rattle.path.proofs.marks.upper_kept.Given as goal
 
 abbrev pub invariant-loop-x : goal.invariant-loop-x
-invariant-loop-x l = UpperSoFar (net_of l.prepared.words.now) (path_of (net_of l.prepared.words.now) (take l.x-index l.path)) l.ones l.upper
+invariant-loop-x l = UpperSoFar (net_of l.walked.prepared.now.words.now) (path_of (net_of l.walked.prepared.now.words.now) (take l.x-index l.walked.path.now)) l.ones l.upper

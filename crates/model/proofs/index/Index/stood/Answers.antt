@@ -16,7 +16,7 @@ pub any-requires-clause-callable : goal.any-requires-clause-callable
 any-requires-clause-callable c =
     let items = c.iter.result.rest.now in
     let same : items ≡ exits_of c.args.self.now c.args.s = cc in
-    let count : length items ≡ exit_count c.args.self.now c.args.s = ap length c.iter.ensures.rest ∙ c.exits.ensures.len in
+    let count : length items ≡ exit_count c.args.self.now c.args.s = ap length c.iter.ensures.rest ∙ c.exits.ensures.len c.requires.few in
     let each : (k d : ℕ) → k < length items → (get_or items k d < 4000) × (place_of c.args.self.now (get_or items k d) < length c.args.words.now) =
     (λ k d h. let more : k < exit_count c.args.self.now c.args.s = omega arith in
     rw (items_slot c.args.self.now c.args.s items same count k d h) (c.requires.low k more, c.requires.inside k more)) in
@@ -28,7 +28,7 @@ returns c =
     let from_slot : ℕ → ℕ = λ i. get_or c.args.words.now (slot_place c.args.self.now c.args.s i) 0 in
     let items = c.exits.result.now in
     let each : (k : ℕ) → k < length items → from_slot (0 + k) ≡ word (get_or items k 0) =
-    (λ k h. ap from_slot (zero-add k) ∙ sym (ap word (items_slot c.args.self.now c.args.s items c.exits.ensures.value c.exits.ensures.len k 0 h))) in
+    (λ k h. ap from_slot (zero-add k) ∙ sym (ap word (items_slot c.args.self.now c.args.s items c.exits.ensures.value (c.exits.ensures.len c.requires.few) k 0 h))) in
     any_from_yields_List (λ (j : ℕ). eqb c.args.w (word j)) _ _ _ c.any.ensures.ran (YieldsList-from_slice items cc) (λ x b q k. search (rules, tests))
     ∙ any_listed (eqb c.args.w) from_slot word items 0 each
-    ∙ ap (λ (n : ℕ). any (eqb c.args.w) (along from_slot n 0)) c.exits.ensures.len
+    ∙ ap (λ (n : ℕ). any (eqb c.args.w) (along from_slot n 0)) (c.exits.ensures.len c.requires.few)
