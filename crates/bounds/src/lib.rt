@@ -33,7 +33,7 @@ mod walk;
 
 // The lower and the upper figure, the cut paths' part of the upper, the counts of death paths, cut paths and steps, and whether no operation that the
 // lower or the upper figure rests on lost anything: then it equals its exact sum.
-// kept: (a) three counts and two marks, and no structs of them: these fields are promised to callers.
+// kept: (d) three counts and two marks side by side, as document 01's report and every door have them; structs of them would be taken apart at each door.
 #[derive(Clone, Copy, PartialEq, Eq)]
 pub struct Report {
     pub lower: Figure,

@@ -23,12 +23,7 @@ fn adds_exactly(total: Figure, figure: Figure) -> bool
 
 // Notes in the marks an ended path, before it is added to the totals: a death, which has a lower, or a cut, on which the report's lower does not rest.
 // The walk calls it only while a mark that it may change can still be 1.
-pub(crate) fn mark_ended(
-    walked: &Walked,
-    lower: Option<Figure>,
-    upper: Figure,
-    rows: &mut RowTable,
-)
+pub(crate) fn mark_ended(walked: &Walked, lower: Option<Figure>, upper: Figure, rows: &mut RowTable)
     requires { TableGathered 999999 rows.old × IfSome lower (Sized 9 35000) × Sized 9 35000 upper }
     ensures { EndedNoted lower (net_of walked.now.prepared.now.words.now) (path_of (net_of walked.now.prepared.now.words.now) walked.now.path.now) upper rows.old rows.new }
 {

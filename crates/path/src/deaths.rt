@@ -55,7 +55,7 @@ pub(crate) fn stem_of<A: Arithmetic>(walked: &Walked, spent: Spent<A>) -> Option
 }
 
 // The stem of the death by `exit` after the path that ends at the tip, worked out along the path.
-// kept: (d) the path, its tip and the exit apart: this function and `Cache::lower` alone take the three.
+// kept: (d) the walked path, its tip and the exit apart: this function and `Cache::lower` alone take the three.
 fn new_stem(walked: &Walked, tip: Tip, exit: Exit) -> Option<Stem<Figure>>
     requires { LastStep (lent_by walked.now.prepared.now) walked.now.path.now tip exit }
     ensures stem_is { result ≡ stem_for (net_of walked.now.prepared.now.words.now) walked.now.path.now tip exit }
@@ -112,13 +112,7 @@ impl Cache {
 
     // The lower of the death by `exit` after the path that ends at the tip, the nth step of class 1 if it is of class 1. A slow exit's stem is kept for the
     // deaths that follow.
-    pub fn lower(
-        &mut self,
-        walked: &Walked,
-        tip: Tip,
-        nth: Figure,
-        exit: Exit,
-    ) -> Figure
+    pub fn lower(&mut self, walked: &Walked, tip: Tip, nth: Figure, exit: Exit) -> Figure
         requires last_step { LastStep (lent_by walked.now.prepared.now) walked.now.path.now tip exit × (nth ≡ ops.of_whole (tip.ones + 1)) }
         requires cached { Cached (net_of walked.now.prepared.now.words.now) (path_of (net_of walked.now.prepared.now.words.now) walked.now.path.now) tip.state self.old }
         ensures lower_value { result ≡ bound.lower (net_of walked.now.prepared.now.words.now) (transition (net_of walked.now.prepared.now.words.now) exit.index ∷ path_of (net_of walked.now.prepared.now.words.now) walked.now.path.now) }

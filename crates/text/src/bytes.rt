@@ -15,7 +15,7 @@ fn fill(bytes: &[u8], words: &mut [u32; WORDS_SIZE]) -> usize
     ensures { Spelled bytes.now words.new result }
 {
     let (wholes, rest) = bytes.as_chunks::<4>();
-    // kept: (c) by index, since of words that an adapter of `iter_mut` lends nothing is known after the loop; tried in `fill_rows` of `rows`
+    // kept: (c) by index: `words.iter_mut().zip(wholes)` was tried, and of words that an adapter of `iter_mut` lends nothing is known after the loop
     for (i, whole) in wholes.iter().enumerate() {
         words[i] = u32::from_le_bytes(*whole);
     }
