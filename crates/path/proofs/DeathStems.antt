@@ -41,7 +41,9 @@ use Rattle.path.specs.Internal.Deaths.{LastStep, StemSized, AnyStemSized, StemIs
 use Rattle.path.proofs.ExitTips.{divisor}
 use Rattle.path.proofs.PathSteps.{share_fine, factor_fine}
 use Rattle.path.proofs.PathSums.{path_length, path_valid, product_fine, product_one, product_other}
-use Rattle.path.proofs.PathSums.{Alone, SpentSoFar, found_one, found_other, spent_one, spent_other}
+use Rattle.path.specs.declared.lower.Spent.{Spent}
+use Rattle.path.specs.Internal.Spent.{SpentIs}
+use Rattle.path.proofs.PathSums.{Alone}
 
 -- ---- the cases of the lower
 
@@ -212,24 +214,15 @@ module _ {l : Lent} (filled : Filled l) {path : List ℕ} {tip : Tip} {exit : Ex
 
   -- N', A and k with the last step, and its stem
 
-  pub with_one : {n k : ℕ} {a b : Figure} {test : Bool} → SpentSoFar Alone net before n a k → test ≡ is_class1 (class_for exit.class) → test ≡ true
-      → {e : Figure} → e ≡ rate_sum net step.from → b ≡ plus_up a e → SpentSoFar Alone net (step ∷ before) n b (k + 1)
-  with_one spent test on e-is b-is =
-      spent_one Alone net step before spent (found_one last.class_is test on) (b-is ∙ rw (e-is, spent.rates_are))
+  module _ {s : Spent Figure} (spent : SpentIs Alone net (step ∷ before) s) where
+    pub with_sized : Sized 9 1000 s.rates
+    with_sized = rw spent.rates (sized-≤ (omega (arith, before_short)) (path_rate_sum_sized last_valid (step ∷ before)))
 
-  pub with_other : {n k : ℕ} {a : Figure} {test : Bool} → SpentSoFar Alone net before n a k → test ≡ is_class1 (class_for exit.class) → test ≡ false
-      → {g : ℕ} → g ≡ own_grains net step → SpentSoFar Alone net (step ∷ before) (n + g) a k
-  with_other spent test off g-is = spent_other Alone net step before spent (found_other last.class_is test off) g-is
+    pub with_few : s.ones ≤ 24
+    with_few = omega (arith, spent.ones, class1_count-≤ net (step ∷ before), before_short)
 
-  module _ {n : ℕ} {a : Figure} {k : ℕ} (spent : SpentSoFar Alone net (step ∷ before) n a k) where
-    pub with_sized : Sized 9 1000 a
-    with_sized = rw spent.rates_are (sized-≤ (omega (arith, before_short)) (path_rate_sum_sized last_valid (step ∷ before)))
-
-    pub with_few : k ≤ 24
-    with_few = omega (arith, spent.ones_are, class1_count-≤ net (step ∷ before), before_short)
-
-    pub with_stem : {c : Option (Stem Figure)} → c ≡ stem_at net before n a k → c ≡ stem_for net path tip exit
-    with_stem s = rw last.leaves (stem_by_step net step before spent.grains_are spent.rates_are spent.ones_are s)
+    pub with_stem : {c : Option (Stem Figure)} → c ≡ stem_at net before s.grains s.rates s.ones → c ≡ stem_for net path tip exit
+    with_stem e = rw last.leaves (stem_by_step net step before spent.grains spent.rates spent.ones e)
 
   -- what the lower is worked out of: a stem, the share, the factor and the number among class 1 steps
   pub operands : (c : Option (Stem Figure)) {r f n : Figure} → AnyStemSized c → r ≡ share step.manner → f ≡ step_factor net (class net step) step

@@ -35,6 +35,8 @@ use Rattle.tables.specs.Internal.Classes.{is_class1}
 use Rattle.tables.specs.Internal.Tables.{step_factor, step_factor_kept}
 use Rattle.tables.proofs.Classes.{step_valid, one_true, one_false, counts_none}
 use Rattle.path.proofs.Regrouped.{swapped, three}
+use Rattle.path.specs.declared.lower.Spent.{Spent}
+use Rattle.path.specs.Internal.Spent.{SpentIs}
 use Rattle.path.specs.Internal.Paths.{path_of, Known, own_grains}
 
 -- ---- the path of a slice
@@ -232,11 +234,6 @@ found_one {x = x} e test on = one_true x (sym (ap is_class1 e) ∙ sym test ∙ 
 pub found_other : {a x : Class} {b : Bool} → a ≡ x → b ≡ is_class1 a → b ≡ false → x ≡ class1 → ⊥
 found_other {x = x} e test off = one_false x (sym (ap is_class1 e) ∙ sym test ∙ off)
 
-pub record SpentSoFar {T : Type 0} (Is : T → Figure → Bool → Type 0) (net : Net) (p : Path) (n : ℕ) (a : T) (k : ℕ) : Type 0 where
-  pub grains_are : n ≡ grain_sum net (own_grains net) p
-  pub rates_are : Is a (path_rate_sum net p) (path_rates_kept net p)
-  pub ones_are : k ≡ class1_count net p
-
 pub record ProductSoFar {T : Type 0} (Is : T → Figure → Bool → Type 0) (net : Net) (t : Figure) (p : Path) (k : ℕ) (f : T) : Type 0 where
   pub ones_are : k ≡ class1_count net p
   pub product_is : Is f (lower_product net (own_grains net) t p) (lower_product_kept net (own_grains net) t p)
@@ -245,34 +242,35 @@ pub record ProductSoFar {T : Type 0} (Is : T → Figure → Bool → Type 0) (ne
 abbrev pub Alone : Figure → Figure → Bool → Type 0
 Alone x f _ = x ≡ f
 
-pub spent_alone : {net : Net} {p : Path} {n k : ℕ} {a : Figure} → n ≡ grain_sum net (own_grains net) p → a ≡ path_rate_sum net p → k ≡ class1_count net p
-    → SpentSoFar Alone net p n a k
-spent_alone e f g = record { grains_are = e; rates_are = f; ones_are = g }
+pub spent_alone : {net : Net} {p : Path} {s : Spent Figure} → s.grains ≡ grain_sum net (own_grains net) p → s.rates ≡ path_rate_sum net p
+    → s.ones ≡ class1_count net p → SpentIs Alone net p s
+spent_alone e f g = record { grains = e; rates = f; ones = g }
 
 module _ {T : Type 0} (Is : T → Figure → Bool → Type 0) (net : Net) where
-  pub spent_start : {z : Figure} {a : T} → z ≡ none → Is a z true → SpentSoFar Is net (path_of net []) 0 a 0
-  spent_start e h = record { grains_are = sym (grains_none net); rates_are = rw (rates_none net, rates_kept_none net, ← e) h; ones_are = sym (ones_none net) }
+  pub spent_start : {z : Figure} {a : T} → z ≡ none → Is a z true → SpentIs Is net (path_of net []) (record { grains = 0; rates = a; ones = 0 })
+  spent_start e h = record { grains = sym (grains_none net); rates = rw (rates_none net, rates_kept_none net, ← e) h; ones = sym (ones_none net) }
 
   pub product_start : (t : Figure) {o : Figure} {f : T} → o ≡ of_whole 1 → Is f o true → ProductSoFar Is net t (path_of net []) 0 f
   product_start t e h = record { ones_are = sym (ones_none net); product_is = rw (product_none net t, product_kept_none net t, ← e) h }
 
-  module _ (x : Transition) (p : Path) {n k : ℕ} {a : T} (so_far : SpentSoFar Is net p n a k) where
+  module _ (x : Transition) (p : Path) {s : Spent T} (so_far : SpentIs Is net p s) where
     pub spent_one : {b : T} → class net x ≡ class1
         → Is b
         (plus_up (path_rate_sum net p) (rate_sum net x.from))
         (path_rates_kept net p && (rate_sum_kept net x.from && plus_keeps (path_rate_sum net p) (rate_sum net x.from)))
-        → SpentSoFar Is net (x ∷ p) n b (k + 1)
+        → SpentIs Is net (x ∷ p) (record { grains = s.grains; rates = b; ones = s.ones + 1 })
     spent_one c h = record {
-      grains_are = so_far.grains_are ∙ sym (grains_one net x p c);
-      rates_are = rw (rates_one net x p c, rates_kept_one net x p c) h;
-      ones_are = omega (arith, so_far.ones_are, ones_one net x p c);
+      grains = so_far.grains ∙ sym (grains_one net x p c);
+      rates = rw (rates_one net x p c, rates_kept_one net x p c) h;
+      ones = omega (arith, so_far.ones, ones_one net x p c);
     }
 
-    pub spent_other : {g : ℕ} → (class net x ≡ class1 → ⊥) → g ≡ own_grains net x → SpentSoFar Is net (x ∷ p) (n + g) a k
+    pub spent_other : {g : ℕ} → (class net x ≡ class1 → ⊥) → g ≡ own_grains net x
+        → SpentIs Is net (x ∷ p) (record { grains = s.grains + g; rates = s.rates; ones = s.ones })
     spent_other c e = record {
-      grains_are = omega (arith, so_far.grains_are, e, grains_other net x p c);
-      rates_are = rw (rates_other net x p c, rates_kept_other net x p c) so_far.rates_are;
-      ones_are = so_far.ones_are ∙ sym (ones_other net x p c);
+      grains = omega (arith, so_far.grains, e, grains_other net x p c);
+      rates = rw (rates_other net x p c, rates_kept_other net x p c) so_far.rates;
+      ones = so_far.ones ∙ sym (ones_other net x p c);
     }
 
   module _ (t : Figure) (x : Transition) (p : Path) {k : ℕ} {f : T} (so_far : ProductSoFar Is net t p k f) where

@@ -1,6 +1,7 @@
 pub mod Lent
 pub mod Held
 pub mod Paths
+pub mod Spent
 pub mod Counts
 pub mod Outcomes
 pub mod Exits

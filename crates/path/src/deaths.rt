@@ -16,7 +16,7 @@ ghost use Rattle.path.specs.Internal.Deaths.{AnyStemSized, Cached, LastStep, Ste
 
 use crate::exits::{Exit, Tip};
 use crate::lower::{Spent, last_factor, product, spent_on};
-use crate::prepared::Walked;
+use crate::prepared::{Leaving, Walked};
 use figure::{Arithmetic, Direction, Figure};
 use tables::class::Class;
 
@@ -61,17 +61,12 @@ fn new_stem(walked: &Walked, tip: Tip, exit: Exit) -> Option<Stem<Figure>>
     ensures stem_is { result ≡ stem_for (net_of walked.now.prepared.now.words.now) walked.now.path.now tip exit }
     ensures stem_sized { AnyStemSized result }
 {
-    let prepared = walked.prepared;
-    let j = usize::from(exit.index);
-    let mut spent: Spent<Figure> = spent_on(walked);
-    if exit.class.is_class1() {
-        spent.rates = spent
-            .rates
-            .plus(prepared.rate_sum(tip.state), Direction::Up);
-        spent.ones += 1;
-    } else {
-        spent.grains += prepared.grains(j);
-    }
+    let so_far: Spent<Figure> = spent_on(walked);
+    let last = Leaving {
+        class: exit.class,
+        state: tip.state,
+    };
+    let spent = so_far.with_step(walked.prepared, usize::from(exit.index), last);
     stem_of(walked, spent)
 }
 

@@ -1,17 +1,16 @@
 // What a path's lower rests on: N', A and the product of the factors, along its steps. The walk takes A and the product for figures alone, the marks for
 // figures that tell.
-ghost use Rattle.std.specs.Prelude.{◌≡◌, ◌≤◌, Bool};
+ghost use Rattle.std.specs.Prelude.{◌≡◌, ◌<◌, ◌≤◌, ◌∷◌, Bool};
 ghost use Rattle.figure.specs.declared.Figure.{Figure};
 ghost use Rattle.figure.specs.Operands.{Sized};
-ghost use Rattle.tree.specs.Paths.{class1_count};
-ghost use Rattle.tree.specs.Grains.{grain_sum};
 ghost use Rattle.tree.specs.Lower as bound;
 ghost use Rattle.tree.specs.Marks as marks;
 ghost use Rattle.tables.specs.Internal.Described.{net_of};
 ghost use Rattle.path.specs.Internal.Paths.{own_grains, path_of};
 ghost use Rattle.path.specs.Internal.Marks.{last_of, last_of_kept};
+ghost use Rattle.path.specs.Internal.Spent.{Leaves, SpentIs};
 
-use crate::prepared::Walked;
+use crate::prepared::{Leaving, Prepared, Walked};
 use figure::{Arithmetic, Direction, Figure};
 
 // N', A and k of a path.
@@ -22,29 +21,45 @@ pub(crate) struct Spent<A> {
     pub ones: u64,
 }
 
-pub(crate) fn spent_on<A: Arithmetic>(walked: &Walked) -> Spent<A>
-    ensures grains_value { result.grains ≡ grain_sum (net_of walked.now.prepared.now.words.now) (own_grains (net_of walked.now.prepared.now.words.now)) (path_of (net_of walked.now.prepared.now.words.now) walked.now.path.now) }
-    ensures rates_value { A.Is result.rates (bound.path_rate_sum (net_of walked.now.prepared.now.words.now) (path_of (net_of walked.now.prepared.now.words.now) walked.now.path.now)) (marks.path_rates_kept (net_of walked.now.prepared.now.words.now) (path_of (net_of walked.now.prepared.now.words.now) walked.now.path.now)) }
-    ensures ones_value { result.ones ≡ class1_count (net_of walked.now.prepared.now.words.now) (path_of (net_of walked.now.prepared.now.words.now) walked.now.path.now) }
-{
-    let mut grains: u64 = 0;
-    let mut rates = A::exact(Figure::zero());
-    let mut ones: u64 = 0;
-    for &x in walked.path {
-        let j = usize::from(x);
-        let step = walked.prepared.leaving(j);
+impl<A: Arithmetic> Spent<A> {
+    ghost use Rattle.tree.specs.Paths.{Path};
+    ghost use Rattle.model.specs.Index.{transition};
+
+    // With one step more, the transition j: one of class 1 brings E of the state that it leaves, and counts; another brings its grains.
+    pub(crate) fn with_step(self, prepared: &Prepared, j: usize, step: Leaving) -> Spent<A>
+        requires leaves { Leaves (net_of prepared.now.words.now) j step }
+        requires room { Sized 9 1000 (A.figure_of self.rates) × (self.ones < 24) × (self.grains ≤ 24000000) }
+        ensures { (p : Path) → SpentIs A.Is (net_of prepared.now.words.now) p self → SpentIs A.Is (net_of prepared.now.words.now) (transition (net_of prepared.now.words.now) j ∷ p) result }
+    {
         if step.class.is_class1() {
-            rates = rates.plus(walked.prepared.rate_sum(step.state), Direction::Up);
-            ones += 1;
-        } else {
-            grains += walked.prepared.grains(j);
+            let own = prepared.rate_sum(step.state);
+            return Spent {
+                rates: self.rates.plus(own, Direction::Up),
+                ones: self.ones + 1,
+                ..self
+            };
+        }
+        Spent {
+            grains: self.grains + prepared.grains(j),
+            ..self
         }
     }
-    Spent {
-        grains,
-        rates,
-        ones,
+}
+
+// That of a path.
+pub(crate) fn spent_on<A: Arithmetic>(walked: &Walked) -> Spent<A>
+    ensures { SpentIs A.Is (net_of walked.now.prepared.now.words.now) (path_of (net_of walked.now.prepared.now.words.now) walked.now.path.now) result }
+{
+    let mut spent = Spent {
+        grains: 0,
+        rates: A::exact(Figure::zero()),
+        ones: 0,
+    };
+    for &x in walked.path {
+        let j = usize::from(x);
+        spent = spent.with_step(walked.prepared, j, walked.prepared.leaving(j));
     }
+    spent
 }
 
 // The product of a path's factors, t being down(t).

@@ -8,28 +8,28 @@ use Rattle.path.proofs.marks.lower_kept.Goals as goal
 
 pub stem_of-requires : goal.stem_of-requires
 stem_of-requires c = (
-  rw c.spent_on-spent.ensures.rates_value (sized-≤ (lit≤ tt) (rates_fine c.args.walked.now.prepared.now.filled.indexes.valid c.args.walked.now.known)),
-  ones_few c.args.walked.now.known c.spent_on-spent.ensures.ones_value,
+  rw c.spent_on-spent.ensures.rates (sized-≤ (lit≤ tt) (rates_fine c.args.walked.now.prepared.now.filled.indexes.valid c.args.walked.now.known)),
+  ones_few c.args.walked.now.known c.spent_on-spent.ensures.ones,
 )
 
 pub times-lower-requires : goal.times-lower-requires
 times-lower-requires c =
-    let parts = rw c.in-Some.is at (c.stem_of.ensures _ _ c.spent_on-spent.ensures.rates_value) in let valid = c.args.walked.now.prepared.now.filled.indexes.valid in (
+    let parts = rw c.in-Some.is at (c.stem_of.ensures _ _ c.spent_on-spent.ensures.rates) in let valid = c.args.walked.now.prepared.now.filled.indexes.valid in (
       product_part_fine valid c.args.walked.now.known parts,
-      last_part_fine valid c.args.walked.now.known (ones_few c.args.walked.now.known c.spent_on-spent.ensures.ones_value) parts,
+      last_part_fine valid c.args.walked.now.known (ones_few c.args.walked.now.known c.spent_on-spent.ensures.ones) parts,
     )
 
 pub returns-in-None : goal.returns-in-None
 returns-in-None c =
-    let spent = c.spent_on-spent.ensures in let filled = rw c.in-None.is at (c.stem_of.ensures _ _ spent.rates_value) in
-    lower_filled _ _ spent.grains_value spent.ones_value c.grains_kept-kept.ensures filled
+    let spent = c.spent_on-spent.ensures in let filled = rw c.in-None.is at (c.stem_of.ensures _ _ spent.rates) in
+    lower_filled _ _ spent.grains spent.ones c.grains_kept-kept.ensures filled
 
 pub returns-then-kept : goal.returns-then-kept
 returns-then-kept c =
-    let spent = c.spent_on-spent.ensures in let parts = rw c.in-Some.is at (c.stem_of.ensures _ _ spent.rates_value) in
-    lower_true _ _ spent.grains_value spent.ones_value c.grains_kept-kept.ensures parts c.times-lower.ensures c.if-kept.true
+    let spent = c.spent_on-spent.ensures in let parts = rw c.in-Some.is at (c.stem_of.ensures _ _ spent.rates) in
+    lower_true _ _ spent.grains spent.ones c.grains_kept-kept.ensures parts c.times-lower.ensures c.if-kept.true
 
 pub returns-else-kept : goal.returns-else-kept
 returns-else-kept c =
-    let spent = c.spent_on-spent.ensures in let parts = rw c.in-Some.is at (c.stem_of.ensures _ _ spent.rates_value) in
-    c.if-kept.false ∙ lower_false _ _ spent.grains_value spent.ones_value c.grains_kept-kept.ensures parts c.times-lower.ensures c.if-kept.false
+    let spent = c.spent_on-spent.ensures in let parts = rw c.in-Some.is at (c.stem_of.ensures _ _ spent.rates) in
+    c.if-kept.false ∙ lower_false _ _ spent.grains spent.ones c.grains_kept-kept.ensures parts c.times-lower.ensures c.if-kept.false
