@@ -39,7 +39,7 @@ pub trait Arithmetic: Copy {
         ensures figure_value { figure_of result ≡ ops.of_whole n }
         ensures mark_value { Is result (ops.of_whole n) (losses.whole_keeps n) };
 
-    // kept: (d) nothing here calls it: the crates above read quantities as figures alone; but each operation is to tell whether anything was lost.
+    // Nothing here calls it: the crates above read quantities as figures alone; but each operation is to tell whether anything was lost.
     fn of_quantity(c: u32, p: u32) -> Self
         requires { p ≤ 255 }
         ensures figure_value { figure_of result ≡ ops.of_quantity c p }

@@ -26,8 +26,8 @@ mod whole;
 use division::Width;
 pub use generic::Arithmetic;
 
-// kept: (a) its fields are free, and each operation asks for an `Operand`, or for the width `Sized` that its own sum needs: a caller through C hands over any
-// digits and any power, and `is_figure` is the test.
+// kept: (a) its fields are free: a caller through C hands over any digits and any power, and lends rows that hold any. So an operation asks for a figure of so
+// many digits (`IsFigure`), with a power in the range that it needs (`Operand`, `Sized`), here and in the crates above; `is_figure` is the test.
 #[repr(C)]
 #[derive(Clone, Copy, PartialEq, Eq)]
 pub struct Figure {

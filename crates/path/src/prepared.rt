@@ -51,7 +51,8 @@ impl Prepared<'_> {
     ghost use Rattle.path.specs.Internal.Paths.{own_grains, step_class};
 
     // The class and the state that the transition j leaves.
-    // kept: (d) j < length table, here and below: how many transitions there are the model says, not a type of an index; `Known` has it for a path's entries.
+    // kept: (d) j < length table, here, below and in `tables`: how many transitions there are the model says, not a type of an index; a `Walked` has it for its
+    // entries.
     pub(crate) fn leaving(&self, j: usize) -> Leaving
         requires { j < length (net_of self.now.words.now).table }
         ensures class_value { class_for result.class ≡ step_class (net_of self.now.words.now) j }

@@ -1,11 +1,9 @@
 // Which states have rows.
 ghost use Rattle.std.specs.Prelude.{◌≡◌, length, ◌≤◌};
-ghost use Rattle.model.specs.Promise.{summary};
 ghost use Rattle.tables.specs.Internal.Described.{described, net_of};
 ghost use Rattle.rows.specs.Internal.Names.{Targets, marked, Named};
 
 use crate::table::RowTable;
-use model::Accepted;
 use model::index::Index;
 use tables::indexed::Indexed;
 use tables::transition_count;
@@ -32,13 +30,13 @@ fn has_row(index: &Index, targets: &[bool; 1001], s: usize) -> bool
 }
 
 // Makes the table of an accepted model's rows, whatever it held, their totals zero.
-pub fn name_rows(model: Indexed, a: Accepted, table: &mut RowTable)
-    requires { a ≡ summary (described model.words.now) }
+pub fn name_rows(model: Indexed, table: &mut RowTable)
     ensures { Named (described model.entry.words.now) table.new }
 {
     *table = RowTable::empty();
-    let targets = targets(model, transition_count(model.index, a.states));
-    for s in 1..=a.states {
+    let states = model.accepted.states;
+    let targets = targets(model, transition_count(model.index, states));
+    for s in 1..=states {
         if has_row(model.index, &targets, s) {
             table.add_row(s);
         }

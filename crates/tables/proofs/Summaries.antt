@@ -25,6 +25,6 @@ module _ {ws : List ℕ} {index : Index} (indexes : Indexes ws index) {a : Accep
   pub transitions_are : {count : ℕ} → count ≡ exit_total index a.states → count ≡ length (net_of ws).table
   transitions_are e = e ∙ ap (exit_total index) states_are ∙ count_is indexes
 
-  pub steps_ready : {time : Rounded} {table : Table} → time ≡ exact (figure_of a.time) → StatesHold (net_of ws) a.states table
+  pub steps_ready : {time : Rounded} {table : Table} → time ≡ exact (figure_of a.time) → StatesHold (net_of ws) (described ws).states table
       → StepReady ws time table
-  steps_ready e h = record { time_is = e ∙ ap (λ (x : Accepted). exact (figure_of x.time)) is; states = rw states_are at h }
+  steps_ready e h = record { time_is = e ∙ ap (λ (x : Accepted). exact (figure_of x.time)) is; states = h }

@@ -1,17 +1,21 @@
-// An accepted model as the tables and the walk take it: its words with their index.
+// An accepted model as the tables, the rows and the walk take it: its words with their index, and what the first of them say.
 ghost use Rattle.std.specs.Prelude.{◌≡◌, ◌<◌, length};
 ghost use Rattle.model.specs.Index.{transition, transition_at};
-ghost use Rattle.tables.specs.Internal.Described.{Indexes, StandsFirst, net_of};
+ghost use Rattle.model.specs.Promise.{summary};
+ghost use Rattle.tables.specs.Internal.Described.{Indexes, StandsFirst, described, net_of};
 ghost use Rattle.tables.specs.Internal.Facts.{indexes_prop};
 
+use model::Accepted;
 use model::index::Index;
 
-// The words of an accepted model, and the index of its exits that reading them has filled.
+// The words of an accepted model, the index of its exits that reading them has filled, and what reading has answered.
 #[derive(Clone, Copy)]
 pub struct Indexed<'a> {
     pub words: &'a [u32],
     pub index: &'a Index,
+    pub accepted: Accepted,
     pub ghost indexes: { Indexes words.now index.now } by { indexes_prop words.now index.now },
+    pub ghost accepted_is: { accepted ≡ summary (described words.now) },
 }
 
 impl<'a> Indexed<'a> {

@@ -2,8 +2,7 @@
 #![tactic(auto)]
 
 ghost use Rattle.std.specs.Prelude.{◌≡◌, ◌≤◌};
-ghost use Rattle.model.specs.Promise.{summary};
-ghost use Rattle.tables.specs.Internal.Described.{described, exit_total};
+ghost use Rattle.tables.specs.Internal.Described.{exit_total};
 ghost use Rattle.tables.specs.Internal.Tables.{Tabled};
 
 use crate::figures::figure_of;
@@ -12,7 +11,6 @@ use crate::states::fill_states;
 use crate::steps::fill_steps;
 use crate::table::Table;
 use figure::{Arithmetic, Rounded};
-use model::Accepted;
 use model::index::Index;
 
 pub mod class;
@@ -39,12 +37,11 @@ pub fn transition_count(index: &Index, states: usize) -> usize
 }
 
 // Fills the table for an accepted model, whatever it held.
-pub fn fill(model: Indexed, a: Accepted, table: &mut Table)
-    requires { a ≡ summary (described model.words.now) }
+pub fn fill(model: Indexed, table: &mut Table)
     ensures { Tabled model.entry.words.now table.new }
 {
-    let time = Rounded::exact(figure_of(a.time));
-    let count = transition_count(model.index, a.states);
-    fill_states(model, a.states, table);
+    let time = Rounded::exact(figure_of(model.accepted.time));
+    fill_states(model, table);
+    let count = transition_count(model.index, model.accepted.states);
     fill_steps(model, count, time, table);
 }

@@ -17,7 +17,7 @@ const MARK: u64 = 1 << 51;
 const RAISED: i32 = 1 << 20;
 
 // A figure, or a number of grains, with its mark: whether no operation that it rests on lost anything.
-// kept: (a) 64 bits and no struct of digits, power and mark: the table stands on the stack of a library that allocates nothing, and would be three times
+// kept: (a) 64 bits and no `Rounded`: the table stands on the stack of a library that allocates nothing, and would be three times
 // as large.
 // kept: (d) a count of grains has no type of its own, since it shares the mark's bit and its reading; a table's field says which it is
 #[derive(Clone, Copy, Default)]
@@ -27,6 +27,7 @@ pub struct Packed {
 
 impl Packed {
     // A figure that tells, with its mark.
+    // kept: (d) no `From`, here and at `packed` of `Sums` and `Step`: each asks for a range, and `from` has to take every value.
     pub(crate) fn of(x: Rounded) -> Packed
         requires { Operand 9 x.figure }
         ensures { (unpacked result ≡ x.figure) × (marked result ≡ x.kept) }

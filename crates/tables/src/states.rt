@@ -80,12 +80,11 @@ fn sums_of(model: Indexed, s: usize) -> Sums
     so_far
 }
 
-// E, h, h' and H of the states 1 to `states`, put into the table.
-pub(crate) fn fill_states(model: Indexed, states: usize, table: &mut Table)
-    requires { states ≡ (described model.words.now).states }
-    ensures { StatesHold (net_of model.entry.words.now) states table.new }
+// E, h, h' and H of each state, put into the table.
+pub(crate) fn fill_states(model: Indexed, table: &mut Table)
+    ensures { StatesHold (net_of model.entry.words.now) (described model.entry.words.now).states table.new }
 {
-    for s in 1..=states {
+    for s in 1..=model.accepted.states {
         let x = sums_of(model, s);
         table.states[s] = x.packed();
     }

@@ -6,7 +6,8 @@ use std::io::Read;
 use text::bytes::BYTES_SIZE;
 
 // Reads until the buffer is full, the input ends or a read fails, and answers what was read.
-// kept: (d) `report` has the same loop: two programs with no crate of both; this one goes on with what was read where a read fails.
+// kept: (d) `report` has the same loop, but for what becomes of a read that fails: here the answer goes on with what was read. The crate that both use, `text`,
+// reads nothing, and a crate for one loop of eight lines is no plainer.
 fn read_full<'a, R: Read>(from: &mut R, buffer: &'a mut [u8]) -> &'a [u8] {
     let mut len = 0;
     // kept: (d) a read may give any number of bytes; what falls is the room that is left

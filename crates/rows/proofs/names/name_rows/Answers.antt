@@ -7,10 +7,10 @@ use Rattle.rows.proofs.names.name_rows.Goals as goal
 use Rattle.rows.proofs.names.name_rows.Goals.{then-has_row, else-has_row}
 
 pub transition_count-requires : goal.transition_count-requires
-transition_count-requires c = states_few c.args.model.indexes c.requires
+transition_count-requires c = states_few c.args.model.indexes c.args.model.accepted_is
 
 pub targets-targets-requires : goal.targets-targets-requires
-targets-targets-requires c = transitions_are c.args.model.indexes c.requires c.transition_count.ensures
+targets-targets-requires c = transitions_are c.args.model.indexes c.args.model.accepted_is c.transition_count.ensures
 
 pub loop-s-init : goal.loop-s-init
 loop-s-init c = (omega arith, naming_none c.empty.ensures)
@@ -28,9 +28,9 @@ loop-s-preserved c =
 
 pub returns-after-has_row : goal.returns-after-has_row
 returns-after-has_row c =
-    let all = rw (transitions_are c.args.model.indexes c.requires c.transition_count.ensures) at c.targets-targets.ensures in
+    let all = rw (transitions_are c.args.model.indexes c.args.model.accepted_is c.transition_count.ensures) at c.targets-targets.ensures in
     let back : c.loop-s.s ≡ suc (c.loop-s.s - 1) = omega arith in
-    let last : (described c.args.model.words.now).states ≡ c.loop-s.s = omega (arith, states_are c.args.model.indexes c.requires) in
+    let last : (described c.args.model.words.now).states ≡ c.loop-s.s = omega (arith, states_are c.args.model.indexes c.args.model.accepted_is) in
     named c.args.model.indexes all (rw last (elim c.if-has_row.branch [
       | then-has_row w ↦ rw w.table-is (naming_more c.loop-s.invariant.1 back (sym c.has_row.ensures ∙ w.if-has_row.true) w.add_row.ensures)
       | else-has_row w ↦ rw w.table-is (naming_same c.loop-s.invariant.1 back (sym c.has_row.ensures ∙ w.if-has_row.false))
@@ -38,6 +38,6 @@ returns-after-has_row c =
 
 pub returns : goal.returns
 returns c =
-    let all = rw (transitions_are c.args.model.indexes c.requires c.transition_count.ensures) at c.targets-targets.ensures in
-    let last : (described c.args.model.words.now).states ≡ c.loop-s.s - 1 = omega (arith, states_are c.args.model.indexes c.requires) in
+    let all = rw (transitions_are c.args.model.indexes c.args.model.accepted_is c.transition_count.ensures) at c.targets-targets.ensures in
+    let last : (described c.args.model.words.now).states ≡ c.loop-s.s - 1 = omega (arith, states_are c.args.model.indexes c.args.model.accepted_is) in
     named c.args.model.indexes all (rw last c.loop-s.invariant.1)

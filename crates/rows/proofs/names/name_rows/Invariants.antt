@@ -4,4 +4,4 @@ use Rattle.rows.proofs.RowNames.{Naming}
 use Rattle.rows.proofs.names.name_rows.Given as goal
 
 abbrev pub invariant-loop-s : goal.invariant-loop-s
-invariant-loop-s l = (l.s ≤ l.fn.a.states + 1) × Naming l.model.index.now l.targets (l.s - 1) l.table
+invariant-loop-s l = (l.s ≤ l.states + 1) × Naming l.model.index.now l.targets (l.s - 1) l.table
