@@ -57,8 +57,8 @@ impl Part {
     }
 
     // Its digits at a power, rounded up or down to the given width.
-    // kept: (d) `to` and `width` side by side, here, below and in `sum::plus`: the one is the caller's choice and the other the operation's own, and a struct of
-    // the two would be made at each call.
+    // kept: (d) `to` and `width` side by side, here, below and in `sum::plus`: the one is the caller's choice and the other the operation's own, and a struct
+    // of the two would be made at each call.
     pub(crate) fn directed(self, to: Direction, width: Width, power: i32) -> Figure
         requires { (self.whole < 10 ^ digits_of width) × (mag power ≤ 1000000) }
         ensures { result ≡ directed to (digits_of width) self power }

@@ -81,8 +81,8 @@ impl RowTable {
     }
 
     // One more death path that ends in the state s: in the report's totals and in those of its row.
-    // kept: (d) `TableGathered` and the range of a path's figures, here, below and in `bounds`: with a ghost count of the paths in the table each clause would have
-    // to bound that count instead, and of a path's figures no type says from how many steps they come.
+    // kept: (d) `TableGathered` and the range of a path's figures, here, below and in `bounds`: with a ghost count of the paths in the table each clause would
+    // have to bound that count instead, and of a path's figures no type says from how many steps they come.
     pub fn note_death(&mut self, s: usize, lower: Figure, upper: Figure)
         requires { (s ≤ 1000) × TableGathered 999999 self.old × Sized 9 35000 lower × Sized 9 35000 upper }
         ensures { DeathNoted s lower upper self.old self.new }
