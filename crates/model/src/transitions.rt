@@ -1,5 +1,5 @@
 // Transitions in any order, up to the end, and the index of exits that they fill.
-ghost use Rattle.std.specs.Prelude.{◌≤◌, ◌<◌, ◌≡◌, true, false, length};
+ghost use Rattle.std.specs.Prelude.{◌+◌, ◌≤◌, ◌<◌, ◌≡◌, true, false, length, get_or};
 ghost use Rattle.word.specs.Words as fields;
 ghost use Rattle.word.specs.Internal.Tests.{answer, first_fault};
 ghost use Rattle.model.specs.Reading.{most_words};
@@ -7,55 +7,11 @@ ghost use Rattle.model.specs.Internal.Parts as parts;
 
 use crate::Accepted;
 use crate::index::Index;
+use crate::indexed_words::IndexedWords;
 use word::faults::ensure;
 use word::fields::{from, is_fast};
 use word::kinds::Kind;
 use word::{Refusal, faults};
-
-// Tests 8 and 9 of the word w, where the table has `known` transitions so far.
-#[tactic(auto, unfolding(word::specs::Internal::Tests::first_fault))]
-fn room(words: &[u32], w: u32, at: usize, known: usize, index: &Index) -> Result<(), Refusal>
-    requires { parts.Leads words.now index.now (fields.from_field w) }
-    ensures { answer result ≡ first_fault (parts.room_faults words.now index.now known w) at }
-{
-    let s = from(w);
-    let new = !index.stood(words, s, w);
-    ensure(new, Refusal::DuplicateTransition(at))?;
-    let few = index.exit_count(s) < 16 && known < 4000;
-    ensure(few, Refusal::TooManyTransitions(at))
-}
-
-// The word behind a slow transition's own, at place `at`: the rate.
-#[tactic(auto, using(word::proofs::Parts::part_from), unfolding(crate::specs::Internal::Parts::words_answer, word::specs::Answer::then))]
-fn rate(words: &[u32], at: usize) -> Result<(), Refusal>
-    requires { at ≤ length words.now }
-    ensures { answer result ≡ parts.words_answer (parts.body_faults false) at words.now }
-{
-    faults::quantity(&words[at..], at, Kind::Rate, 20, 1)
-}
-
-// The words behind a fast transition's own, from place `at` on: the mean, the deviation and the probability.
-#[tactic(auto, using(word::proofs::Parts::part_from), unfolding(crate::specs::Internal::Parts::words_answer, word::specs::Answer::then))]
-fn spread(words: &[u32], at: usize) -> Result<(), Refusal>
-    requires { at ≤ length words.now }
-    ensures { answer result ≡ parts.words_answer (parts.body_faults true) at words.now }
-{
-    faults::quantity(&words[at..], at, Kind::Mean, 20, 1)?;
-    let second = at + 1;
-    faults::quantity(&words[second..], second, Kind::Deviation, 20, 0)?;
-    let third = at + 2;
-    faults::quantity(&words[third..], third, Kind::Probability, 12, 1)
-}
-
-// The end, whose word stands at `at`: no word follows it.
-fn end(words: &[u32], at: usize) -> Result<(), Refusal>
-    requires { at < length words.now }
-    ensures { parts.EndsAs words.now at result }
-{
-    faults::end(&words[at..], at)?;
-    let behind = at + 1;
-    ensure(words.len() <= behind, Refusal::WrongKind(behind))
-}
 
 // How far reading has come: the words, what the first four of them say, the place of the next one and the number of transitions before it.
 #[derive(Clone, Copy)]
@@ -67,6 +23,45 @@ struct Progress<'a> {
 }
 
 impl Progress<'_> {
+    // Tests 8 and 9 of the word that stands here, by the exits so far.
+    #[tactic(auto, unfolding(word::specs::Internal::Tests::first_fault))]
+    fn room(&self, exits: IndexedWords) -> Result<(), Refusal>
+        requires inside { self.now.at < length self.now.words.now }
+        requires state { fields.from_field (get_or self.now.words.now self.now.at 0) ≤ 1000 }
+        ensures { answer result ≡ first_fault (parts.room_faults exits.entry.words.now exits.entry.index.now self.now.known (get_or self.now.words.now self.now.at 0)) self.now.at }
+    {
+        let w = self.words[self.at];
+        let s = from(w);
+        let new = !exits.stood(s, w);
+        ensure(new, Refusal::DuplicateTransition(self.at))?;
+        let few = exits.index.exit_count(s) < 16 && self.known < 4000;
+        ensure(few, Refusal::TooManyTransitions(self.at))
+    }
+
+    // The word behind a slow transition's own: the rate.
+    #[tactic(auto, using(word::proofs::Parts::part_from), unfolding(crate::specs::Internal::Parts::words_answer, word::specs::Answer::then))]
+    fn rate(&self) -> Result<(), Refusal>
+        requires { self.now.at < length self.now.words.now }
+        ensures { answer result ≡ parts.words_answer (parts.body_faults false) (self.now.at + 1) self.now.words.now }
+    {
+        let first = self.at + 1;
+        faults::quantity(&self.words[first..], first, Kind::Rate, 20, 1)
+    }
+
+    // The words behind a fast transition's own: the mean, the deviation and the probability.
+    #[tactic(auto, using(word::proofs::Parts::part_from), unfolding(crate::specs::Internal::Parts::words_answer, word::specs::Answer::then))]
+    fn spread(&self) -> Result<(), Refusal>
+        requires { self.now.at < length self.now.words.now }
+        ensures { answer result ≡ parts.words_answer (parts.body_faults true) (self.now.at + 1) self.now.words.now }
+    {
+        let first = self.at + 1;
+        faults::quantity(&self.words[first..], first, Kind::Mean, 20, 1)?;
+        let second = first + 1;
+        faults::quantity(&self.words[second..], second, Kind::Deviation, 20, 0)?;
+        let third = first + 2;
+        faults::quantity(&self.words[third..], third, Kind::Probability, 12, 1)
+    }
+
     // All tests of the transition whose word, of kind 5 or 7, stands here.
     fn tested(&self, index: &Index) -> Result<(), Refusal>
         requires { parts.AtTransition self.now.a self.now.words.now self.now.at self.now.known index.now }
@@ -74,11 +69,15 @@ impl Progress<'_> {
     {
         let w = self.words[self.at];
         faults::transition(w, self.at, self.a.states)?;
-        room(self.words, w, self.at, self.known, index)?;
+        let exits = IndexedWords {
+            words: self.words,
+            index,
+        };
+        self.room(exits)?;
         if is_fast(w) {
-            spread(self.words, self.at + 1)
+            self.spread()
         } else {
-            rate(self.words, self.at + 1)
+            self.rate()
         }
     }
 
@@ -93,6 +92,16 @@ impl Progress<'_> {
         Ok(Some(self.at + if is_fast(w) { 4 } else { 2 }))
     }
 
+    // The end, whose word stands here: no word follows it.
+    fn end(&self) -> Result<(), Refusal>
+        requires { self.now.at < length self.now.words.now }
+        ensures { parts.EndsAs self.now.words.now self.now.at result }
+    {
+        faults::end(&self.words[self.at..], self.at)?;
+        let behind = self.at + 1;
+        ensure(self.words.len() <= behind, Refusal::WrongKind(behind))
+    }
+
     // One turn, where a transition or the end is called for: the place behind the transition, none at the end.
     fn next(&self, index: &mut Index) -> Result<Option<usize>, Refusal>
         requires begun { parts.Begun self.now.a self.now.words.now self.now.at self.now.known index.old }
@@ -105,7 +114,7 @@ impl Progress<'_> {
         match Kind::of(w) {
             Kind::SlowTransition | Kind::FastTransition => self.transition(index),
             Kind::End => {
-                end(self.words, self.at)?;
+                self.end()?;
                 Ok(None)
             }
             _ => Err(Refusal::WrongKind(self.at)),

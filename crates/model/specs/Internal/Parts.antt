@@ -52,7 +52,6 @@ slot_transitions ws index s = along (λ i. transition_at (drop (slot_place index
 
 -- The exits of the state s lead to transitions' words: each has an index below 4,000, and a fast transition has its three words behind it.
 pub record Leads (ws : List ℕ) (index : Index) (s : ℕ) : Type 0 where
-  pub state : s ≤ 1000
   pub few : exit_count index s ≤ 16
   pub low : (i : ℕ) → i < exit_count index s → slot index s i < 4000
   pub inside : (i : ℕ) → i < exit_count index s → slot_place index s i < length ws

@@ -10,10 +10,13 @@ returns-in_err-transition c =
     let p = err_from_is_err_and c.from_residual.result c.from_residual.ensures.1 in
     rw (p.1, p.2) (fields_stop _ _ _ _ _ c.requires _ _ (sym c.in_err-transition.ensures))
 
+pub invariant_of-exits : goal.invariant_of-exits
+invariant_of-exits c = record { leads = leads _ _ _ _ c.requires.begun }
+
 pub room-requires : goal.room-requires
 room-requires c =
     let small : get_or c.args.self.now.words.now c.args.self.now.at 0 < 4294967296 = omega arith in
-    leads _ _ _ _ c.requires.begun _ (from_small _ _ _ _ _ c.requires small (sym c.in_ok-transition.ensures))
+    record { inside = c.requires.inside; state = from_small _ _ _ _ _ c.requires small (sym c.in_ok-transition.ensures) }
 
 pub returns-in_err-room : goal.returns-in_err-room
 returns-in_err-room c =
