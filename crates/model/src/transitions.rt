@@ -13,21 +13,22 @@ use word::fields::{from, is_fast};
 use word::kinds::Kind;
 use word::{Refusal, faults};
 
-// How far reading has come: the words, what the first four of them say, the place of the next one and the number of transitions before it.
+// How far reading has come, where a word is left: the words, what the first four of them say, its place and the number of transitions before it.
 #[derive(Clone, Copy)]
 struct Progress<'a> {
     words: &'a [u32],
     a: Accepted,
     at: usize,
     known: usize,
+    ghost inside: { at < length words.now },
+    ghost short: { length words.now ≤ most_words },
 }
 
 impl Progress<'_> {
     // Tests 8 and 9 of the word that stands here, by the exits so far.
     #[tactic(auto, unfolding(word::specs::Internal::Tests::first_fault))]
     fn room(&self, exits: IndexedWords) -> Result<(), Refusal>
-        requires inside { self.now.at < length self.now.words.now }
-        requires state { fields.from_field (get_or self.now.words.now self.now.at 0) ≤ 1000 }
+        requires { fields.from_field (get_or self.now.words.now self.now.at 0) ≤ 1000 }
         ensures { answer result ≡ first_fault (parts.room_faults exits.entry.words.now exits.entry.index.now self.now.known (get_or self.now.words.now self.now.at 0)) self.now.at }
     {
         let w = self.words[self.at];
@@ -41,7 +42,6 @@ impl Progress<'_> {
     // The word behind a slow transition's own: the rate.
     #[tactic(auto, using(word::proofs::Parts::part_from), unfolding(crate::specs::Internal::Parts::words_answer, word::specs::Answer::then))]
     fn rate(&self) -> Result<(), Refusal>
-        requires { self.now.at < length self.now.words.now }
         ensures { answer result ≡ parts.words_answer (parts.body_faults false) (self.now.at + 1) self.now.words.now }
     {
         let first = self.at + 1;
@@ -51,7 +51,6 @@ impl Progress<'_> {
     // The words behind a fast transition's own: the mean, the deviation and the probability.
     #[tactic(auto, using(word::proofs::Parts::part_from), unfolding(crate::specs::Internal::Parts::words_answer, word::specs::Answer::then))]
     fn spread(&self) -> Result<(), Refusal>
-        requires { self.now.at < length self.now.words.now }
         ensures { answer result ≡ parts.words_answer (parts.body_faults true) (self.now.at + 1) self.now.words.now }
     {
         let first = self.at + 1;
@@ -94,7 +93,6 @@ impl Progress<'_> {
 
     // The end, whose word stands here: no word follows it.
     fn end(&self) -> Result<(), Refusal>
-        requires { self.now.at < length self.now.words.now }
         ensures { parts.EndsAs self.now.words.now self.now.at result }
     {
         faults::end(&self.words[self.at..], self.at)?;
@@ -104,14 +102,10 @@ impl Progress<'_> {
 
     // One turn, where a transition or the end is called for: the place behind the transition, none at the end.
     fn next(&self, index: &mut Index) -> Result<Option<usize>, Refusal>
-        requires begun { parts.Begun self.now.a self.now.words.now self.now.at self.now.known index.old }
-        requires words_len_bound { length self.now.words.now ≤ most_words }
+        requires { parts.Begun self.now.a self.now.words.now self.now.at self.now.known index.old }
         ensures { parts.Stepped self.now.a self.now.words.now self.now.at self.now.known index.new result }
     {
-        let Some(&w) = self.words.get(self.at) else {
-            return Err(Refusal::WrongKind(self.at));
-        };
-        match Kind::of(w) {
+        match Kind::of(self.words[self.at]) {
             Kind::SlowTransition | Kind::FastTransition => self.transition(index),
             Kind::End => {
                 self.end()?;
@@ -134,16 +128,21 @@ pub(crate) fn list(
     requires words_len_bound { length words.now ≤ most_words }
     ensures { parts.Listed a words.now index.new result }
 {
-    let mut so_far = Progress {
-        words,
-        a,
-        at: first,
-        known: 0,
-    };
+    let mut at = first;
+    let mut known = 0;
     // kept: (d) the place of each transition follows from the word before, so no range or iterator gives it
-    while let Some(behind) = so_far.next(index)? {
-        so_far.at = behind;
-        so_far.known += 1;
+    while at < words.len() {
+        let here = Progress {
+            words,
+            a,
+            at,
+            known,
+        };
+        let Some(behind) = here.next(index)? else {
+            return Ok(());
+        };
+        at = behind;
+        known += 1;
     }
-    Ok(())
+    Err(Refusal::WrongKind(at))
 }
