@@ -3,8 +3,8 @@ ghost use Rattle.model.specs.Internal.Parts.{Ended, Concluded};
 
 use crate::Accepted;
 use crate::index::Index;
+use crate::indexed_words::IndexedWords;
 use crate::named::lowest_leading_on;
-use crate::probabilities::lowest_uneven;
 use word::Refusal;
 use word::faults::ensure;
 
@@ -12,7 +12,8 @@ pub(crate) fn concluded(words: &[u32], a: Accepted, index: &Index) -> Result<Acc
     requires { Ended a words.now index.now }
     ensures { Concluded words.now index.now result }
 {
-    if let Some(s) = lowest_uneven(words, a.states, index) {
+    let exits = IndexedWords { words, index };
+    if let Some(s) = exits.lowest_uneven(a.states) {
         return Err(Refusal::ProbabilitiesNotOne(s));
     }
     if let Some(s) = lowest_leading_on(index, a.states) {

@@ -4,6 +4,7 @@
 mod conclusion;
 pub mod exits;
 pub mod index;
+mod indexed_words;
 mod named;
 mod opening;
 mod probabilities;

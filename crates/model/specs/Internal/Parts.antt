@@ -11,7 +11,7 @@ use Rattle.word.specs.Internal.Tests.{word_answer, TransitionWord}
 use Rattle.word.specs.Refusal.{number, place}
 use Rattle.model.specs.declared.Accepted.{Accepted}
 use Rattle.model.specs.declared.index.Index.{Index}
-use Rattle.model.specs.Reading.{at_head, at_named, at_transition, last_of, read_from, most_words, read}
+use Rattle.model.specs.Reading.{at_head, at_named, at_transition, last_of, read_from, read}
 use Rattle.model.specs.Reasons.{Called, NoneBelow, IsLowest}
 use Rattle.model.specs.Index.{transition_at, slot, exit_count, place_of, named_flag, Indexed}
 use Rattle.model.specs.Promise.{summary, Answers}
@@ -52,7 +52,6 @@ slot_transitions ws index s = along (λ i. transition_at (drop (slot_place index
 
 -- The exits of the state s lead to transitions' words: each has an index below 4,000, and a fast transition has its three words behind it.
 pub record Leads (ws : List ℕ) (index : Index) (s : ℕ) : Type 0 where
-  pub state : s ≤ 1000
   pub few : exit_count index s ≤ 16
   pub low : (i : ℕ) → i < exit_count index s → slot index s i < 4000
   pub inside : (i : ℕ) → i < exit_count index s → slot_place index s i < length ws
@@ -141,8 +140,6 @@ Stepped a ws i known index r =
 -- the word at place i is of kind 5 or 7
 pub record AtTransition (a : Accepted) (ws : List ℕ) (i known : ℕ) (index : Index) : Type 0 where
   pub begun : Begun a ws i known index
-  pub short : length ws ≤ most_words
-  pub inside : i < length ws
   pub kind_is : (kind (get_or ws i 0) ≡ 5) ⊎ (kind (get_or ws i 0) ≡ 7)
 
 -- how many words the transition takes whose own word is w

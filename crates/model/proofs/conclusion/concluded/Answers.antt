@@ -2,12 +2,16 @@
 use Rattle.std.proofs.Common.{sym, ◌∙◌, arith}
 use Rattle.std.proofs.lemmas.Result.{err_from_is_err_and}
 use borrow.Author.Tests.{eqb-true, not-false}
-use Rattle.model.proofs.Concluding.{states_small, leads_all, start_small}
+use Rattle.model.proofs.Filled.{leads}
+use Rattle.model.proofs.Concluding.{states_small, start_small}
 use Rattle.model.proofs.Concluding.{concludes_uneven, concludes_leading_on, concludes_stuck, concludes_accepted}
 use Rattle.model.proofs.conclusion.concluded.Goals as goal
 
+pub invariant_of-exits : goal.invariant_of-exits
+invariant_of-exits c = record { leads = leads _ _ _ _ c.requires }
+
 pub lowest_uneven-requires : goal.lowest_uneven-requires
-lowest_uneven-requires c = (states_small _ _ _ c.requires, leads_all _ _ _ c.requires)
+lowest_uneven-requires c = states_small _ _ _ c.requires
 
 pub returns-in-Some : goal.returns-in-Some
 returns-in-Some c = concludes_uneven _ _ _ c.requires _ c.in-Some.ensures

@@ -1,9 +1,9 @@
-use Rattle.std.proofs.Common.{◌≡◌, ◌-◌, length}
+use Rattle.std.proofs.Common.{◌-◌, length}
 use Rattle.model.specs.Internal.Parts.{Begun}
 use Rattle.model.proofs.transitions.list.Given as goal
 
-abbrev pub invariant-loop-behind : goal.invariant-loop-behind
-invariant-loop-behind l = (l.so_far.a ≡ l.fn.a) × (l.so_far.words.now ≡ l.fn.words) × Begun l.fn.a l.fn.words l.so_far.at l.so_far.known l.index
+abbrev pub invariant-loop-at : goal.invariant-loop-at
+invariant-loop-at l = Begun l.a l.words l.at l.known l.index
 
-abbrev pub decreases-loop-behind : goal.decreases-loop-behind
-decreases-loop-behind l = length l.fn.words - l.so_far.at
+abbrev pub decreases-loop-at : goal.decreases-loop-at
+decreases-loop-at l = length l.words - l.at
