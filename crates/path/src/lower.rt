@@ -26,6 +26,8 @@ impl<A: Arithmetic> Spent<A> {
     ghost use Rattle.model.specs.Index.{transition};
 
     // With one step more, the transition j: one of class 1 brings E of the state that it leaves, and counts; another brings its grains.
+    // Built in at both calls: handed over and back in memory, N', A and k cost the deaths 3 to 7 percent.
+    #[inline(always)]
     pub(crate) fn with_step(self, prepared: &Prepared, j: usize, step: Leaving) -> Spent<A>
         requires leaves { Leaves (net_of prepared.now.words.now) j step }
         requires room { Sized 9 1000 (A.figure_of self.rates) × (self.ones < 24) × (self.grains ≤ 24000000) }
