@@ -20,8 +20,9 @@ pub(crate) struct Task {
     pub budget: u64,
 }
 
-// Walks every exit of the tip's state. `left` is the number of steps that the path may still take. It hands back the counts with the steps taken,
-// keeps all totals in `rows`, and stops at the first step past the budget. The entry counts are set back, and the path up to the tip stays as it is.
+// Walks every exit of the tip's state. `left` is the number of steps that the path may still take. It hands back the counts with the steps taken, and
+// keeps all totals in `rows`; the entry counts are set back, and the path up to the tip stays as it is. None says that it stopped where a step more than
+// the budget would be taken, and what it left is of no use then.
 // kept: (a) the path is an array of the longest one with the tip's length beside it, since nothing here is allocated and a slice does not grow.
 // kept: (b) one function, though a long one: tried with functions of their own for the marks of a death and of a cut, which the compiler built in here,
 // and deaths cost more.
@@ -34,11 +35,9 @@ pub(crate) fn walk(
     path: &mut [u16; 24],
     counts: Counts,
     rows: &mut RowTable,
-) -> Counts
+) -> Option<Counts>
     requires { Ready (lent_by prepared.now) (asked task tip left entered.old (take tip.len path.old) counts rows.old) }
-    ensures walked { WalkedBeyond (lent_by prepared.now) (asked task tip left entered.old (take tip.len path.old) counts rows.old) result rows.new }
-    ensures set_back { entered.new ≡ entered.old }
-    ensures path_same { take tip.len path.new ≡ take tip.len path.old }
+    ensures { WalkedBeyond (lent_by prepared.now) (asked task tip left entered.old (take tip.len path.old) counts rows.old) result entered.new (take tip.len path.new) rows.new }
 {
     let nth = Figure::of_whole(tip.ones + 1);
     let len = tip.len;
@@ -47,7 +46,7 @@ pub(crate) fn walk(
     let leaving = prepared.index.exits(tip.state);
     for &x in leaving {
         if made.steps == task.budget {
-            return made.with_step();
+            return None;
         }
         let exit = exit_at(prepared, tip, nth, x);
         path[len] = exit.index;
@@ -80,13 +79,9 @@ pub(crate) fn walk(
             Outcome::Continued => {
                 let so_far = made.with_step();
                 entered[to] = before + 1;
-                made = walk(prepared, task, next, left - 1, entered, path, so_far, rows);
+                made = walk(prepared, task, next, left - 1, entered, path, so_far, rows)?;
                 entered[to] = before;
-                if task.budget < made.steps {
-                    return made;
-                }
             }
-            // kept: (d) the four reasons of a cut, as the definition of the tree has them
             Outcome::GeneratorsState
             | Outcome::EnteredTooOften
             | Outcome::StepLimit
@@ -103,5 +98,5 @@ pub(crate) fn walk(
             }
         }
     }
-    made
+    Some(made)
 }
