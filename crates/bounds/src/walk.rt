@@ -3,7 +3,7 @@ ghost use Rattle.std.specs.Prelude.{◌≡◌, take};
 ghost use Rattle.path.specs.Internal.Held.{lent_by};
 ghost use Rattle.bounds.specs.Internal.Walk.{Ready, WalkedBeyond, asked};
 
-use crate::marks::mark_ended;
+use crate::marks::{mark_cut, mark_death};
 use figure::Figure;
 use path::counts::Counts;
 use path::deaths::Cache;
@@ -24,8 +24,6 @@ pub(crate) struct Task {
 // keeps all totals in `rows`; the entry counts are set back, and the path up to the tip stays as it is. None says that it stopped where a step more than
 // the budget would be taken, and what it left is of no use then.
 // kept: (a) the path is an array of the longest one with the tip's length beside it, since nothing here is allocated and a slice does not grow.
-// kept: (b) one function, though a long one: tried with functions of their own for the marks of a death and of a cut, which the compiler built in here,
-// and deaths cost more.
 pub(crate) fn walk(
     prepared: &Prepared,
     task: Task,
@@ -66,13 +64,7 @@ pub(crate) fn walk(
                     path: &path[..len],
                 };
                 let lower = cache.lower(&before_it, tip, nth, exit);
-                if rows.is_open() {
-                    let ended = Walked {
-                        prepared: &*prepared,
-                        path: &path[..len + 1],
-                    };
-                    mark_ended(&ended, Some(lower), upper, rows);
-                }
+                mark_death(prepared, &path[..len + 1], lower, upper, rows);
                 rows.note_death(to, lower, upper);
                 made = made.with_death();
             }
@@ -86,13 +78,7 @@ pub(crate) fn walk(
             | Outcome::EnteredTooOften
             | Outcome::StepLimit
             | Outcome::LowLevel => {
-                if rows.upper_kept {
-                    let ended = Walked {
-                        prepared: &*prepared,
-                        path: &path[..len + 1],
-                    };
-                    mark_ended(&ended, None, upper, rows);
-                }
+                mark_cut(prepared, &path[..len + 1], upper, rows);
                 rows.note_cut(upper);
                 made = made.with_cut();
             }
