@@ -1,4 +1,4 @@
--- What the walk's loop keeps at each exit of a state: it begins, it ends after the last exit or past the budget, and each exit may be read.
+-- What the walk's loop keeps at each exit of a state: it begins, it ends after the last exit or where the budget is used up, and each exit may be read.
 -- Assumes nothing.
 use Prim.Native.Nat.{ℕ, suc, ◌+◌, ◌-◌, ◌≤◌, ◌<◌}
 use mathlib.Core.Path.{◌≡◌, refl, sym, ap, ◌∙◌, subst}
