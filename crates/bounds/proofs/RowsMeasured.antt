@@ -2,14 +2,13 @@
 -- Assumes nothing.
 use Prim.Native.Nat.{ℕ, ◌+◌, ◌≤◌, ◌<◌}
 use mathlib.Core.Path.{◌≡◌, refl, sym, ap, ap₂, ◌∙◌, subst}
-use mathlib.Core.Bool.{true, false}
 use mathlib.Core.List.{List, map}
 use native.Mathlib.Omega.{arith}
 use native.Mathlib.Nat.{le_trans}
-use lib.Dec.{ltb, lit≤}
+use lib.Dec.{lit≤}
 use lib.ListN.{length, get_or, take}
 use lib.Seq.{get_or-take}
-use borrow.Author.Tests.{ltb-true, ltb-false}
+use borrow.Author.Tests.{ltb-false}
 use Rattle.std.specs.Prelude.{Ok, Err}
 use Rattle.figure.specs.Rounding.{none}
 use Rattle.figure.specs.Operands.{Operand}
@@ -31,18 +30,18 @@ use Rattle.tree.proofs.Computing.{computing}
 use Rattle.tree.proofs.Tally.{tally_finish_row}
 use Rattle.tree.proofs.Ranges.{total_none, total_operand}
 use Rattle.tree.specs.Marks.{marks_with}
-use Rattle.tree.proofs.Answer.{walk_refused, walk_reported, walk_marks, marks_refused, marks_granted}
+use Rattle.tree.proofs.Answer.{walked_over, walk_reported, walk_marks, marks_refused, marks_granted}
 use Rattle.tree.proofs.RowStates.{row_states_few, row_states_range}
 use Rattle.tree.proofs.RowAnswers.{RowsRefused, rows_read_refused, rows_read_few, rows_read_granted, rows_of_over, rows_of_within}
 use Rattle.path.specs.declared.counts.Counts.{Counts}
 use Rattle.rows.specs.declared.table.RowTable.{RowTable}
-use Rattle.rows.specs.Internal.Table.{named_states, totals_in, NamesKept, Empty}
+use Rattle.rows.specs.Internal.Table.{named_states, totals_in, NamesKept, TableGathered, Empty}
 use Rattle.rows.specs.Internal.Filling.{row_of, rows_in, Fits}
 use Rattle.rows.specs.Internal.Names.{Named}
 use Rattle.bounds.specs.declared.Report.{Report}
 use Rattle.bounds.specs.Answers.{report_of, marks_of}
 use Rattle.bounds.specs.Internal.Measured.{Measured}
-use Rattle.bounds.specs.Internal.Walk.{totals_of, kept_of, EndsOver, KeptCounted}
+use Rattle.bounds.specs.Internal.Walk.{totals_of, kept_of, EndsWithin}
 
 -- ---- no rows
 
@@ -123,43 +122,43 @@ module _ (ws : List ℕ) (budget lent : ℕ) {m : Model} (read : reading.read ws
   high : m.states ≤ 1000
   high = (read_valid ws budget m read).states_high
 
-  module _ {t : Counts} (after : RowTable) (ends : EndsOver m.net budget nothing_kept (tree m.net m.limits) t after) where
-    -- the walk went over the budget, and the rows were named anew
-    pub measured_over : {table : RowTable} → Named m table → ltb budget t.steps ≡ true → Measured ws ws budget lent table (Err OverBudget)
-    unfolding finish_row
-    measured_over {table} named over =
-        let granted = rows_read_granted ws budget lent read enough in
-        let more : budget < length (tree m.net m.limits) = omega (arith, ltb-true budget (0 + length (tree m.net m.limits)) (sym ends.over_is ∙ over)) in
-        let kept : NamesKept table table = record { count_same = refl; states_same = refl } in
-        record {
-          answer_is = sym (granted.answers ∙ walk_refused budget m _ _ ends over);
-          marks_are = sym (ap (marks_with ws budget) (granted.answers ∙ walk_refused budget m _ _ ends over) ∙ marks_refused ws budget 13 0);
-          has = has_there m high named kept zero_row (zero_there named) ∙ sym (granted.fills ∙ rows_of_over budget m more);
-          fits = fits_there m high named kept enough
-              (λ s. rw named.no_totals.rows_are (total_operand total_none (lit≤ tt), total_operand total_none (lit≤ tt)));
-          words_unchanged = refl;
-        }
-      where
-        zero_there : Named m table → (s : ℕ) → finish_row s (totals_in table s) ≡ zero_row s
-        zero_there named s = rw named.no_totals.rows_are (λ i. record { state = s; lower = none_nine i; upper = none_sum i })
+  -- the tree has more steps than the budget, and the rows were named anew
+  pub measured_over : {table : RowTable} → Named m table → budget < length (tree m.net m.limits) → Measured ws ws budget lent table (Err OverBudget)
+  unfolding finish_row
+  measured_over {table} named more =
+      let granted = rows_read_granted ws budget lent read enough in
+      let refused = granted.answers ∙ walked_over budget m more in
+      let kept : NamesKept table table = record { count_same = refl; states_same = refl } in
+      record {
+        answer_is = sym refused;
+        marks_are = sym (ap (marks_with ws budget) refused ∙ marks_refused ws budget 13 0);
+        has = has_there m high named kept zero_row (zero_there named) ∙ sym (granted.fills ∙ rows_of_over budget m more);
+        fits = fits_there m high named kept enough
+            (λ s. rw named.no_totals.rows_are (total_operand total_none (lit≤ tt), total_operand total_none (lit≤ tt)));
+        words_unchanged = refl;
+      }
+    where
+      zero_there : Named m table → (s : ℕ) → finish_row s (totals_in table s) ≡ zero_row s
+      zero_there named s = rw named.no_totals.rows_are (λ i. record { state = s; lower = none_nine i; upper = none_sum i })
 
-    -- a report
-    pub measured_report : {table : RowTable} → Named m table → NamesKept table after → KeptCounted t after → t.steps ≤ 1000000
-        → (q : Report) → report_of q ≡ running.finish (totals_of t after) → marks_of q ≡ running.finish_marks (kept_of t after)
-        → ltb budget t.steps ≡ false → Measured ws ws budget lent after (Ok q)
-    measured_report {table} named names counted few q is marks within =
-        let granted = rows_read_granted ws budget lent read enough in
-        let less : length (tree m.net m.limits) ≤ budget = omega (arith, ltb-false budget (0 + length (tree m.net m.limits)) (sym ends.over_is ∙ within)) in
-        record {
-          answer_is = ap answers.granted is ∙ sym (granted.answers ∙ walk_reported budget m _ _ ends within);
-          marks_are = marks ∙ walk_marks budget m _ _ ends within
-              ∙ sym (ap (marks_with ws budget) (granted.answers ∙ walk_reported budget m _ _ ends within) ∙ marks_granted ws budget m _ read);
-          has = has_there m high named names (row_on m.net (tree m.net m.limits)) row_there ∙ sym (granted.fills ∙ rows_of_within budget m less);
-          fits = fits_there m high named names enough
-              (λ s. let g = counted.totals.each_row s in (total_operand g.lower (le_trans few (lit≤ tt)), total_operand g.upper (le_trans few (lit≤ tt))));
-          words_unchanged = refl;
-        }
-      where
-        row_there : (s : ℕ) → finish_row s (totals_in after s) ≡ row_on m.net (tree m.net m.limits) s
-        row_there s =
-            ap (λ k. finish_row s (k.rows s)) (ends.totals_are within) ∙ tally_finish_row m.net (tree m.net m.limits) s
+  -- a report
+  pub measured_report : {c : Counts} {table : RowTable} (after : RowTable) → EndsWithin m.net budget nothing_kept (tree m.net m.limits) c after
+      → Named m table → NamesKept table after → TableGathered 1000000 after
+      → (q : Report) → report_of q ≡ running.finish (totals_of c after) → marks_of q ≡ running.finish_marks (kept_of c after)
+      → Measured ws ws budget lent after (Ok q)
+  measured_report after ends named names gathered q is marks =
+      let granted = rows_read_granted ws budget lent read enough in
+      let reported = granted.answers ∙ walk_reported budget m _ _ ends refl in
+      let less : length (tree m.net m.limits) ≤ budget = omega (arith, ltb-false budget (0 + length (tree m.net m.limits)) (sym ends.over_is)) in
+      record {
+        answer_is = ap answers.granted is ∙ sym reported;
+        marks_are = marks ∙ walk_marks budget m _ _ ends refl ∙ sym (ap (marks_with ws budget) reported ∙ marks_granted ws budget m _ read);
+        has = has_there m high named names (row_on m.net (tree m.net m.limits)) row_there ∙ sym (granted.fills ∙ rows_of_within budget m less);
+        fits = fits_there m high named names enough
+            (λ s. let g = gathered.each_row s in (total_operand g.lower (lit≤ tt), total_operand g.upper (lit≤ tt)));
+        words_unchanged = refl;
+      }
+    where
+      row_there : (s : ℕ) → finish_row s (totals_in after s) ≡ row_on m.net (tree m.net m.limits) s
+      row_there s =
+          ap (λ k. finish_row s (k.rows s)) (ends.totals_are refl) ∙ tally_finish_row m.net (tree m.net m.limits) s

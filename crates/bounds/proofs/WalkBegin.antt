@@ -6,10 +6,10 @@ use mathlib.Core.List.{List, []}
 use native.Mathlib.Omega.{arith}
 use native.Mathlib.Nat.{le_trans, add-zero, zero-add}
 use lib.Dec.{lit≤}
-use lib.ListN.{set, replicate}
+use lib.ListN.{length, set, replicate}
 use Rattle.figure.specs.declared.Figure.{Figure}
 use Rattle.figure.specs.Operations.{of_whole}
-use Rattle.std.specs.Prelude.{Result, Ok, Err}
+use Rattle.std.specs.Prelude.{Option, None, Some, Result, Ok, Err}
 use Rattle.word.specs.declared.Refusal.{Refusal}
 use Rattle.word.specs.Model.{Model}
 use Rattle.word.specs.Answer as answers
@@ -37,7 +37,7 @@ use Rattle.path.specs.Internal.Counts.{no_counts}
 use Rattle.rows.specs.declared.table.RowTable.{RowTable}
 use Rattle.rows.specs.Internal.Table.{NoTotals}
 use Rattle.rows.proofs.RowTotals.{empty_gathered}
-use Rattle.bounds.specs.Internal.Walk.{Asked, asked, carried_in, carried_of, kept_of, visits_from, Ready, EndsOver, WalkedBeyond, WalkedTree}
+use Rattle.bounds.specs.Internal.Walk.{Asked, asked, carried_in, carried_of, kept_of, visits_from, Ready, EndsWithin, NoRoom, WentBeyond, WalkedBeyond, WentOver, WalkedTree}
 
 -- ---- an accepted reading
 
@@ -144,16 +144,28 @@ module _ {ws : List ℕ} {index : Index} (indexes : Indexes ws index) {a : Accep
         within = rw none_yet (omega arith);
       }
 
-      -- and the walk from there is the one over the tree
-      pub walk_tree : {table : Table} {r : Counts} {after : RowTable} → WalkedBeyond (lent ws index table) first r after → WalkedTree ws budget r rows after
+      -- the visits from there are those of the tree
+      whole : (table : Table) → visits_from (lent ws index table) a.step_limit (carried_in (lent ws index table) first) ≡ tree m.net m.limits
+      whole table =
+          ap₂ (visits_from (lent ws index table)) (ap (λ (x : Accepted). x.step_limit) is) at_the_start ∙ carried_tree m indexes.valid
+
+      tree_over : (table : Table) → NoRoom (lent ws index table) first → budget < length (tree m.net m.limits)
+      tree_over table past = omega (arith, past, ap (λ c. c.steps) none_yet, ap length (whole table))
+
+      tree_within : (table : Table) (c : Counts) {entered path : List ℕ} (after : RowTable)
+          → WentBeyond (lent ws index table) first c entered path after → WentOver ws budget c rows after
       unfolding path_of tree
-      walk_tree {table} {r} {after} done =
-          let e : visits_from (lent ws index table) a.step_limit (carried_in (lent ws index table) first) ≡ tree m.net m.limits =
-          ap₂ (visits_from (lent ws index table)) (ap (λ (x : Accepted). x.step_limit) is) at_the_start ∙ carried_tree m indexes.valid in
-          record {
-            ends = subst (λ (w : Kept). EndsOver m.net budget w (tree m.net m.limits) r after) nothing_so_far
-                (subst (λ (vs : List Visit). EndsOver m.net budget (kept_of counts rows) vs r after) e done.ends);
-            counted = done.counted;
-            names_kept = done.names_kept;
-            steps_are = λ within. done.steps_are within ∙ rw (none_yet, is) (zero-add _);
-          }
+      tree_within table c after went = record {
+        ends = subst (λ (w : Kept). EndsWithin m.net budget w (tree m.net m.limits) c after) nothing_so_far
+            (subst (λ (vs : List Visit). EndsWithin m.net budget (kept_of counts rows) vs c after) (whole table) went.ends);
+        counted = went.counted;
+        within = went.within;
+        names_kept = went.names_kept;
+        steps_are = went.steps_are ∙ rw (none_yet, is) (zero-add _);
+      }
+
+      -- and the walk from there is the one over the tree
+      pub walk_tree : (table : Table) (r : Option Counts) (entered path : List ℕ) (after : RowTable)
+          → WalkedBeyond (lent ws index table) first r entered path after → WalkedTree ws budget r rows after
+      walk_tree table None _ _ _ past = tree_over table past
+      walk_tree table (Some c) _ _ after went = tree_within table c after went

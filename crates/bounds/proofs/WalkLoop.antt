@@ -1,14 +1,14 @@
--- What the walk's loop keeps at each exit of a state: it begins, it ends after the last exit or past the budget, and each exit may be read.
+-- What the walk's loop keeps at each exit of a state: it begins, it ends after the last exit or where the budget is used up, and each exit may be read.
 -- Assumes nothing.
 use Prim.Native.Nat.{ℕ, suc, ◌+◌, ◌-◌, ◌≤◌, ◌<◌}
 use mathlib.Core.Path.{◌≡◌, refl, sym, ap, ◌∙◌, subst}
-use mathlib.Core.Bool.{Bool, true, false, true≢false}
+use mathlib.Core.Bool.{Bool, true, false}
 use mathlib.Core.List.{List}
 use native.Mathlib.Omega.{arith}
-use lib.Dec.{ltb, lit≤}
+use lib.Dec.{lit≤}
 use lib.ListN.{length, get_or, take}
 use lib.Seq.{get_or-take}
-use borrow.Author.Tests.{lt-ltb, le-ltb}
+use borrow.Author.Tests.{ltb-true}
 use Rattle.figure.proofs.Sized.{sized-≤}
 use Rattle.word.specs.Model.{exits}
 use Rattle.model.specs.Internal.Valid.{Valid}
@@ -19,6 +19,7 @@ use Rattle.tree.proofs.Ranges.{any_upper_sized, class1_count-≤}
 use Rattle.tree.specs.Internal.Carried.{Carried}
 use Rattle.tree.proofs.Tally.{tally_steps}
 use Rattle.tree.proofs.Carried.{rest, carried_is, valid_known}
+use Rattle.tree.specs.Internal.Tally.{Kept}
 use Rattle.tree.specs.Internal.Going.{Walked}
 use Rattle.tree.proofs.Going.{Going, exits_start, exits_end, exit_over}
 use Rattle.path.specs.declared.counts.Counts.{Counts}
@@ -31,7 +32,7 @@ use Rattle.rows.specs.Internal.Table.{NamesKept}
 use Rattle.rows.proofs.RowTotals.{table_step}
 use Rattle.path.specs.Internal.Exits.{ExitReady}
 use Rattle.path.specs.Internal.Deaths.{Cached}
-use Rattle.bounds.specs.Internal.Walk.{Asked, carried_in, kept_of, KeptCounted, Ready, Ends, visits_from, visits_beyond}
+use Rattle.bounds.specs.Internal.Walk.{Asked, carried_in, kept_of, KeptCounted, Ready, Ends, NoRoom, WentBeyond, visits_from, visits_beyond}
 use Rattle.path.proofs.PathSums.{path_length, path_valid}
 
 -- what the loop holds at exit i: the entry counts, the path, the totals so far, the cache, and the table of rows with their totals
@@ -139,18 +140,23 @@ module _ {l : Lent} {a : Asked} (filled : Filled l) (ready : Ready l a) where
     going = exits_start (net_in l) (limits_in l) a.task.budget (a.left - 1) here (kept_of a.counts a.rows) ready.within;
   }
 
-  -- the steps handed back tell whether they are past the budget
-  pub ends_by : (over : Bool) {r : Counts} (rows : RowTable) → ltb a.task.budget r.steps ≡ over
-      → Walked (net_in l) a.task.budget (kept_of a.counts a.rows) (visits_from l (suc (a.left - 1)) here) over (kept_of r rows) → Ends l a r rows
-  ends_by over {r} rows o k =
-      let n : suc (a.left - 1) ≡ a.left = omega (arith, ready.more) in
-      subst (λ n. Walked (net_in l) a.task.budget (kept_of a.counts a.rows) (visits_from l n here) (ltb a.task.budget r.steps) (kept_of r rows)) n
-      (subst (λ b. Walked (net_in l) a.task.budget (kept_of a.counts a.rows) (visits_from l (suc (a.left - 1)) here) b (kept_of r rows)) (sym o) k)
+  -- a walk over the visits from here on, which has a step left
+  abbrev WalkedFrom : ℕ → Bool → Kept → Type 0
+  WalkedFrom n over k = Walked (net_in l) a.task.budget (kept_of a.counts a.rows) (visits_from l n here) over k
 
-  -- where the budget was not passed, the steps are those of the cut tree beyond the path
-  pub ends_steps : {r : Counts} (rows : RowTable) → Ends l a r rows → r.steps ≤ a.task.budget → r.steps ≡ a.counts.steps + length (visits_beyond l a)
-  ends_steps {r} rows ends within =
-      ap (λ t. t.totals.steps) (ends.totals_are (le-ltb a.task.budget r.steps within))
+  all_left : suc (a.left - 1) ≡ a.left
+  all_left = omega (arith, ready.more)
+
+  -- such a walk that passed the budget found no room
+  pub no_room : {k : Kept} → WalkedFrom (suc (a.left - 1)) true k → NoRoom l a
+  no_room {k} over =
+      let at : WalkedFrom a.left true k = subst (λ n. WalkedFrom n true k) all_left over in
+      ltb-true a.task.budget (a.counts.steps + length (visits_from l a.left here)) (sym at.over_is)
+
+  -- where it did not, the steps are those of the cut tree beyond the path
+  ends_steps : (c : Counts) (rows : RowTable) → Ends l a c rows → c.steps ≡ a.counts.steps + length (visits_beyond l a)
+  ends_steps c rows ends =
+      ap (λ t. t.totals.steps) (ends.totals_are refl)
       ∙ tally_steps (net_in l) (kept_of a.counts a.rows) (visits_from l a.left here)
       ∙ ap (λ vs. a.counts.steps + length vs)
       (carried_is (net_in l) (limits_in l) (valid_known (model_in l) valid) a.left here ready.carries
@@ -160,17 +166,25 @@ module _ {l : Lent} {a : Asked} (filled : Filled l) (ready : Ready l a) where
     pub steps_few : h.made.steps ≤ 1000000
     steps_few = omega (arith, kept.going.within, ready.task_is.budget_high)
 
-    pub loop_end : exit_count l.index a.tip.state ≤ h.i → Ends l a h.made h.rows
-    loop_end all =
-        ends_by false h.rows (le-ltb a.task.budget h.made.steps kept.going.within)
-        (exits_end (net_in l) (limits_in l) a.task.budget (a.left - 1) here (kept_of a.counts a.rows) h.i (kept_of h.made h.rows)
-        (omega (arith, count_is)) kept.going)
+    pub loop_end : exit_count l.index a.tip.state ≤ h.i → WentBeyond l a h.made h.entered (take a.tip.len h.taken) h.rows
+    loop_end all = record {
+      ends = ends;
+      counted = kept.counted;
+      within = kept.going.within;
+      names_kept = kept.names_kept;
+      set_back = kept.set_back;
+      path_same = kept.same;
+      steps_are = ends_steps h.made h.rows ends;
+    }
+      where
+        ends : Ends l a h.made h.rows
+        ends =
+            subst (λ n. WalkedFrom n false (kept_of h.made h.rows)) all_left
+            (exits_end (net_in l) (limits_in l) a.task.budget (a.left - 1) here (kept_of a.counts a.rows) h.i (kept_of h.made h.rows)
+            (omega (arith, count_is)) kept.going)
 
-    -- the budget is used up, and exit i is still to walk: one step more is counted
-    pub loop_over : h.i < exit_count l.index a.tip.state → h.made.steps ≡ a.task.budget → {r : Counts}
-        → r ≡ step_more h.made → Ends l a r h.rows
-    loop_over more full {r} is =
-        let k = exit_over (net_in l) (limits_in l) a.task.budget (a.left - 1) here (kept_of a.counts a.rows) h.i (kept_of h.made h.rows)
-        (is_exit more) kept.going full in
-        let one : r.steps ≡ h.made.steps + 1 = ap (λ x. x.steps) is in
-        ends_by true h.rows (lt-ltb a.task.budget r.steps (omega arith)) (record { over_is = k.over_is; totals_are = λ z. absurd (true≢false z) })
+    -- the budget is used up, and exit i is still to walk
+    pub loop_over : h.i < exit_count l.index a.tip.state → h.made.steps ≡ a.task.budget → NoRoom l a
+    loop_over more full =
+        no_room (exit_over (net_in l) (limits_in l) a.task.budget (a.left - 1) here (kept_of a.counts a.rows) h.i (kept_of h.made h.rows)
+        (is_exit more) kept.going full)

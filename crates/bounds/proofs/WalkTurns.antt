@@ -208,9 +208,9 @@ module _ {l : Lent} {a : Asked} {h : Held} {x : Exit} (w : Turn l a h x) where
   MarkedThere low rows = MarksNoted (asked_marks low net (path_there l a h x) x.tip.upper h.rows) h.rows rows
 
   -- what the walk notes in the marks of the path as it is written, it notes of this path
-  pub mark_there : (low : Option Figure) {after rows : RowTable} → rows ≡ after
-      → MarksNoted (asked_marks low net (path_of net (take (a.tip.len + 1) written)) x.tip.upper h.rows) h.rows after → MarkedThere low rows
-  mark_there low {after} e m = rw e (subst (λ p. MarksNoted (asked_marks low net p x.tip.upper h.rows) h.rows after) whole_path m)
+  pub mark_there : (low : Option Figure) {rows : RowTable}
+      → MarksNoted (asked_marks low net (path_of net (take (a.tip.len + 1) written)) x.tip.upper h.rows) h.rows rows → MarkedThere low rows
+  mark_there low {rows} m = subst (λ p. MarksNoted (asked_marks low net p x.tip.upper h.rows) h.rows rows) whole_path m
 
   pub before_known : Known net (take a.tip.len written)
   before_known = rw before_is w.ready.known

@@ -1,14 +1,14 @@
 -- What the walk's loop knows once the path through an exit was judged and noted: the path is ended, or walked beyond and set back. Assumes nothing.
-use Prim.Native.Nat.{ℕ, ◌+◌, ◌-◌, ◌≤◌, ◌<◌}
+use Prim.Native.Nat.{ℕ, ◌+◌, ◌-◌, ◌<◌}
 use mathlib.Core.Path.{◌≡◌, refl, sym, ap, ap₂, ◌∙◌, subst}
-use mathlib.Core.Bool.{Bool, true, false, ◌&&◌}
+use mathlib.Core.Bool.{Bool, true, false, ◌&&◌, true≢false}
 use mathlib.Core.List.{List, [], ◌∷◌}
 use native.Mathlib.Omega.{arith}
 use native.Mathlib.Numerals.{add-one}
-use lib.Dec.{ltb, eqb}
+use lib.Dec.{eqb}
 use lib.ListN.{length, get_or, take, set, length-set}
 use lib.Seq.{set-set, set-get_or}
-use borrow.Author.Tests.{lt-ltb, le-ltb}
+use borrow.Author.Tests.{lt-ltb}
 use Rattle.std.proofs.Common.{◌++◌, take-take}
 use Rattle.std.proofs.lemmas.List.{length-append}
 use Rattle.word.specs.Model.{is_empty, is_named, exits}
@@ -30,13 +30,12 @@ use Rattle.path.specs.declared.exits.Exit.{Exit}
 use Rattle.path.specs.Internal.Lent.{Lent, limits_in}
 use Rattle.path.specs.Internal.Paths.{path_of}
 use Rattle.rows.specs.declared.table.RowTable.{RowTable}
-use Rattle.rows.specs.Internal.Table.{NamesKept}
 use Rattle.rows.proofs.RowTotals.{names_then}
 use Rattle.path.specs.Internal.Outcomes.{outcome_of, named_end, judged}
 use Rattle.path.specs.Internal.Exits.{tip_after}
-use Rattle.bounds.specs.Internal.Walk.{Asked, asked, carried_of, carried_in, kept_of, KeptCounted, Ready, Ends, EndsOver, visits_from}
+use Rattle.bounds.specs.Internal.Walk.{Asked, asked, carried_of, carried_in, kept_of, Ready, EndsWithin, NoRoom, WentBeyond, visits_from}
 use Rattle.path.proofs.PathSums.{path_longer}
-use Rattle.bounds.proofs.WalkLoop.{Held, held, AtExit, is_exit, ends_by}
+use Rattle.bounds.proofs.WalkLoop.{Held, held, AtExit, is_exit, no_room}
 use Rattle.bounds.proofs.WalkTurns.{Turn, Visited, path_before, lower_there, marks_there, there_small, before_is, whole_known}
 use Rattle.bounds.proofs.WalkTurns.{net, here, valid, exit, next, outcome_there, there}
 use Rattle.bounds.proofs.WalkTurns.{exit_is, to_small, tip_is, state_is, upper_is, len_is, written, whole_is}
@@ -131,7 +130,7 @@ module _ {l : Lent} {a : Asked} {h : Held} {x : Exit} {o : Coded} {after : Count
     asked_there = asked a.task x.tip (a.left - 1) entered_there (take x.tip.len (written w)) after rows
 
     -- an entry count that the walk beyond left as it was is set back
-    pub entries_back : (entered : List ℕ) → entered ≡ entered_there → set entered x.tip.state (get_or h.entered x.tip.state 0) ≡ a.entered
+    entries_back : (entered : List ℕ) → entered ≡ entered_there → set entered x.tip.state (get_or h.entered x.tip.state 0) ≡ a.entered
     entries_back entered e =
         ap (λ k. set k x.tip.state (get_or h.entered x.tip.state 0)) e
         ∙ set-set h.entered x.tip.state (get_or h.entered x.tip.state 0 + 1) (get_or h.entered x.tip.state 0)
@@ -139,7 +138,7 @@ module _ {l : Lent} {a : Asked} {h : Held} {x : Exit} {o : Coded} {after : Count
         ∙ w.kept.set_back
 
     -- the path up to the tip is as it was wherever the path beyond is
-    pub path_back : (taken : List ℕ) → take x.tip.len taken ≡ take x.tip.len (written w) → take a.tip.len taken ≡ a.path
+    path_back : (taken : List ℕ) → take x.tip.len taken ≡ take x.tip.len (written w) → take a.tip.len taken ≡ a.path
     path_back taken same = below taken ∙ ap (take a.tip.len) same ∙ sym (below (written w)) ∙ before_is w
       where
         below : (p : List ℕ) → take a.tip.len p ≡ take a.tip.len (take x.tip.len p)
@@ -173,29 +172,29 @@ module _ {l : Lent} {a : Asked} {h : Held} {x : Exit} {o : Coded} {after : Count
     continues : is_continued (outcome_there w) ≡ true
     continues = ap is_continued (sym outcome_is) ∙ on
 
-    -- r is what the walk beyond hands back, and rows' the table of rows then
-    module _ {r : Counts} (rows' : RowTable) (ends : Ends l asked_there r rows') where
-      beyond : EndsOver (net w) a.task.budget (kept_of after rows) (visits_from l (a.left - 1) (next w)) r rows'
-      beyond = subst (λ k. EndsOver (net w) a.task.budget (kept_of after rows) (visits_from l (a.left - 1) k) r rows') deeper ends
+    -- the walk beyond finds no room in the budget
+    pub visit_over : NoRoom l asked_there → NoRoom l a
+    visit_over none =
+        let past : a.task.budget < after.steps + length (visits_from l (a.left - 1) (next w)) =
+        subst (λ k. a.task.budget < after.steps + length (visits_from l (a.left - 1) k)) deeper none in
+        no_room w.filled w.ready
+        (exit_below_over (net w) (limits_in l) a.task.budget (a.left - 1) (here w) (kept_of a.counts a.rows) h.i (kept_of h.made h.rows) on_exit
+        w.kept.going (kept_of after rows) visit_is w.some continues true (kept_of after rows)
+        (record { over_is = sym (lt-ltb a.task.budget _ past); totals_are = λ z. absurd (true≢false z) }) refl)
 
-      pub visit_over : a.task.budget < r.steps → Ends l a r rows'
-      visit_over past =
-          ends_by w.filled w.ready (ltb a.task.budget r.steps) rows' refl
-          (exit_below_over (net w) (limits_in l) a.task.budget (a.left - 1) (here w) (kept_of a.counts a.rows) h.i (kept_of h.made h.rows) on_exit
-          w.kept.going (kept_of after rows) visit_is w.some continues (ltb a.task.budget r.steps) (kept_of r rows') beyond
-          (lt-ltb a.task.budget r.steps past))
-
-      pub visit_back : (entered taken : List ℕ) → entered ≡ entered_there → take x.tip.len taken ≡ take x.tip.len (written w) → length taken ≡ 24
-          → KeptCounted r rows' → NamesKept rows rows' → r.steps ≤ a.task.budget
-          → AtExit l a (held (h.i + 1) (set entered x.tip.state (get_or h.entered x.tip.state 0)) taken r cache rows')
-      visit_back entered taken entries path size counted names within = record {
-        set_back = entries_back entered entries;
-        size = size;
-        same = path_back taken path;
-        cached = v.cached;
-        counted = counted;
-        names_kept = names_then (names_then w.kept.names_kept v.names_kept) names;
-        going = rw (add-one h.i) (exit_back (net w) (limits_in l) a.task.budget (a.left - 1) (here w) (kept_of a.counts a.rows) h.i
-            (kept_of h.made h.rows) on_exit w.kept.going (kept_of after rows) visit_is w.some continues (ltb a.task.budget r.steps)
-            (kept_of r rows') beyond (le-ltb a.task.budget r.steps within));
-      }
+    -- it hands back the counts c, with the table rows'
+    pub visit_back : {c : Counts} {entered taken : List ℕ} {rows' : RowTable} → WentBeyond l asked_there c entered (take x.tip.len taken) rows'
+        → length taken ≡ 24 → AtExit l a (held (h.i + 1) (set entered x.tip.state (get_or h.entered x.tip.state 0)) taken c cache rows')
+    visit_back {c} {entered} {taken} {rows'} went size = record {
+      set_back = entries_back entered went.set_back;
+      size = size;
+      same = path_back taken went.path_same;
+      cached = v.cached;
+      counted = went.counted;
+      names_kept = names_then (names_then w.kept.names_kept v.names_kept) went.names_kept;
+      going = rw (add-one h.i) (exit_back (net w) (limits_in l) a.task.budget (a.left - 1) (here w) (kept_of a.counts a.rows) h.i
+          (kept_of h.made h.rows) on_exit w.kept.going (kept_of after rows) visit_is w.some continues false (kept_of c rows') beyond refl);
+    }
+      where
+        beyond : EndsWithin (net w) a.task.budget (kept_of after rows) (visits_from l (a.left - 1) (next w)) c rows'
+        beyond = subst (λ k. EndsWithin (net w) a.task.budget (kept_of after rows) (visits_from l (a.left - 1) k) c rows') deeper went.ends

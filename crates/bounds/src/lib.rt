@@ -46,8 +46,8 @@ pub struct Report {
     pub upper_exact: bool,
 }
 
-// The counts of the walk over the tree of an accepted model, or counts whose steps are above the budget; all totals are kept in `rows`.
-fn walked(model: Indexed, a: Accepted, budget: u64, rows: &mut RowTable) -> Counts
+// The counts of the walk over the tree of an accepted model, all totals kept in `rows`; none where the tree has more steps than the budget.
+fn walked(model: Indexed, a: Accepted, budget: u64, rows: &mut RowTable) -> Option<Counts>
     requires accepted { (a ≡ summary (described model.words.now)) × (budget ≤ 1000000) }
     requires no_totals { NoTotals rows.old }
     ensures { WalkedTree model.entry.words.now budget result rows.old rows.new }
@@ -125,11 +125,10 @@ fn measured(words: &[u32], budget: u64, lent: usize, rows: &mut RowTable) -> Res
         *rows = RowTable::empty();
         return Err(Refusal::TooFewRows(needed));
     }
-    let c = walked(model, a, budget, rows);
-    if budget < c.steps {
+    let Some(c) = walked(model, a, budget, rows) else {
         name_rows(model, a, rows);
         return Err(Refusal::OverBudget);
-    }
+    };
     Ok(reported(c, rows))
 }
 

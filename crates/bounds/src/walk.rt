@@ -3,7 +3,7 @@ ghost use Rattle.std.specs.Prelude.{◌≡◌, take};
 ghost use Rattle.path.specs.Internal.Held.{lent_by};
 ghost use Rattle.bounds.specs.Internal.Walk.{Ready, WalkedBeyond, asked};
 
-use crate::marks::mark_ended;
+use crate::marks::{mark_cut, mark_death};
 use figure::Figure;
 use path::counts::Counts;
 use path::deaths::Cache;
@@ -20,11 +20,10 @@ pub(crate) struct Task {
     pub budget: u64,
 }
 
-// Walks every exit of the tip's state. `left` is the number of steps that the path may still take. It hands back the counts with the steps taken,
-// keeps all totals in `rows`, and stops at the first step past the budget. The entry counts are set back, and the path up to the tip stays as it is.
+// Walks every exit of the tip's state. `left` is the number of steps that the path may still take. It hands back the counts with the steps taken, and
+// keeps all totals in `rows`; the entry counts are set back, and the path up to the tip stays as it is. None says that it stopped where a step more than
+// the budget would be taken, and what it left is of no use then.
 // kept: (a) the path is an array of the longest one with the tip's length beside it, since nothing here is allocated and a slice does not grow.
-// kept: (b) one function, though a long one: tried with functions of their own for the marks of a death and of a cut, which the compiler built in here,
-// and deaths cost more.
 pub(crate) fn walk(
     prepared: &Prepared,
     task: Task,
@@ -34,11 +33,9 @@ pub(crate) fn walk(
     path: &mut [u16; 24],
     counts: Counts,
     rows: &mut RowTable,
-) -> Counts
+) -> Option<Counts>
     requires { Ready (lent_by prepared.now) (asked task tip left entered.old (take tip.len path.old) counts rows.old) }
-    ensures walked { WalkedBeyond (lent_by prepared.now) (asked task tip left entered.old (take tip.len path.old) counts rows.old) result rows.new }
-    ensures set_back { entered.new ≡ entered.old }
-    ensures path_same { take tip.len path.new ≡ take tip.len path.old }
+    ensures { WalkedBeyond (lent_by prepared.now) (asked task tip left entered.old (take tip.len path.old) counts rows.old) result entered.new (take tip.len path.new) rows.new }
 {
     let nth = Figure::of_whole(tip.ones + 1);
     let len = tip.len;
@@ -47,7 +44,7 @@ pub(crate) fn walk(
     let leaving = prepared.index.exits(tip.state);
     for &x in leaving {
         if made.steps == task.budget {
-            return made.with_step();
+            return None;
         }
         let exit = exit_at(prepared, tip, nth, x);
         path[len] = exit.index;
@@ -67,41 +64,25 @@ pub(crate) fn walk(
                     path: &path[..len],
                 };
                 let lower = cache.lower(&before_it, tip, nth, exit);
-                if rows.is_open() {
-                    let ended = Walked {
-                        prepared: &*prepared,
-                        path: &path[..len + 1],
-                    };
-                    mark_ended(&ended, Some(lower), upper, rows);
-                }
+                mark_death(prepared, &path[..len + 1], lower, upper, rows);
                 rows.note_death(to, lower, upper);
                 made = made.with_death();
             }
             Outcome::Continued => {
                 let so_far = made.with_step();
                 entered[to] = before + 1;
-                made = walk(prepared, task, next, left - 1, entered, path, so_far, rows);
+                made = walk(prepared, task, next, left - 1, entered, path, so_far, rows)?;
                 entered[to] = before;
-                if task.budget < made.steps {
-                    return made;
-                }
             }
-            // kept: (d) the four reasons of a cut, as the definition of the tree has them
             Outcome::GeneratorsState
             | Outcome::EnteredTooOften
             | Outcome::StepLimit
             | Outcome::LowLevel => {
-                if rows.upper_kept {
-                    let ended = Walked {
-                        prepared: &*prepared,
-                        path: &path[..len + 1],
-                    };
-                    mark_ended(&ended, None, upper, rows);
-                }
+                mark_cut(prepared, &path[..len + 1], upper, rows);
                 rows.note_cut(upper);
                 made = made.with_cut();
             }
         }
     }
-    made
+    Some(made)
 }

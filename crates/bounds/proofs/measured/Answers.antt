@@ -2,7 +2,6 @@
 -- or within the budget. Assumes nothing.
 use native.Mathlib.Omega.{arith}
 use native.Mathlib.Nat.{le_trans}
-use borrow.Author.Tests.{lt-ltb, le-ltb}
 use Rattle.std.proofs.lemmas.Result.{err_from_is_err_and}
 use Rattle.rows.proofs.RowTotals.{table_most}
 use Rattle.bounds.proofs.WalkBegin.{reads_described, accepted_indexes, accepted_summary, accepted_budget}
@@ -19,22 +18,22 @@ pub returns-then-lent-needed : goal.returns-then-lent-needed
 returns-then-lent-needed c =
     measured_few _ _ _ c.empty-then-lent-needed.ensures (reads_described c.in_ok-a.ensures.answer) c.name_rows.ensures.count_is c.if-lent-needed.true
 
-pub walked-c-requires : goal.walked-c-requires
-walked-c-requires c =
+pub walked-requires : goal.walked-requires
+walked-requires c =
     let a = c.in_ok-a.ensures.answer in
     record { accepted = (accepted_summary a, accepted_budget a); no_totals = c.name_rows.ensures.no_totals }
 
-pub name_rows-requires-then-budget-c : goal.name_rows-requires-then-budget-c
-name_rows-requires-then-budget-c c = accepted_summary c.in_ok-a.ensures.answer
+pub name_rows-requires-in_default : goal.name_rows-requires-in_default
+name_rows-requires-in_default c = accepted_summary c.in_ok-a.ensures.answer
 
-pub returns-then-budget-c : goal.returns-then-budget-c
-returns-then-budget-c c =
-    measured_over _ _ _ (reads_described c.in_ok-a.ensures.answer) (omega (arith, c.name_rows.ensures.count_is, c.if-lent-needed.false)) _
-    c.walked-c.ensures.ends c.name_rows-then-budget-c.ensures (lt-ltb _ _ c.if-budget-c.true)
+pub returns-in_default : goal.returns-in_default
+returns-in_default c =
+    measured_over _ _ _ (reads_described c.in_ok-a.ensures.answer) (omega (arith, c.name_rows.ensures.count_is, c.if-lent-needed.false))
+    c.name_rows-in_default.ensures c.in_default.ensures
 
 pub reported-requires : goal.reported-requires
 reported-requires c =
-    table_most c.walked-c.ensures.counted.totals (le_trans c.if-budget-c.false (accepted_budget c.in_ok-a.ensures.answer))
+    table_most c.in-Some.ensures.counted.totals (le_trans c.in-Some.ensures.within (accepted_budget c.in_ok-a.ensures.answer))
 
 pub returns-in_err-a : goal.returns-in_err-a
 returns-in_err-a c =
@@ -44,6 +43,6 @@ returns-in_err-a c =
 pub returns : goal.returns
 returns c =
     let a = c.in_ok-a.ensures.answer in measured_report _ _ _ (reads_described a)
-    (omega (arith, c.name_rows.ensures.count_is, c.if-lent-needed.false)) _ c.walked-c.ensures.ends c.name_rows.ensures
-    c.walked-c.ensures.names_kept c.walked-c.ensures.counted
-    (le_trans c.if-budget-c.false (accepted_budget a)) c.reported.result c.reported.ensures.0 c.reported.ensures.1 (le-ltb _ _ c.if-budget-c.false)
+    (omega (arith, c.name_rows.ensures.count_is, c.if-lent-needed.false)) _ c.in-Some.ensures.ends c.name_rows.ensures
+    c.in-Some.ensures.names_kept (table_most c.in-Some.ensures.counted.totals (le_trans c.in-Some.ensures.within (accepted_budget a)))
+    c.reported.result c.reported.ensures.0 c.reported.ensures.1

@@ -26,4 +26,4 @@ walk-requires c =
 pub returns : goal.returns
 returns c =
     walk_tree c.args.model.indexes c.requires.accepted.0 c.figure_of-2.ensures c.of_whole.ensures _ c.requires.accepted.1
-    (none_counted c.default.result c.default.ensures) _ c.requires.no_totals c.walk.ensures.walked
+    (none_counted c.default.result c.default.ensures) _ c.requires.no_totals _ c.walk.result _ _ _ c.walk.ensures

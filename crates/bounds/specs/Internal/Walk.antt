@@ -1,5 +1,5 @@
 -- What the walk is asked for and hands back. Assumes nothing: these are definitions.
-use Rattle.std.specs.Prelude.{ℕ, ◌+◌, ◌≤◌, ◌<◌, ◌≡◌, List, length, ltb}
+use Rattle.std.specs.Prelude.{ℕ, ◌+◌, ◌≤◌, ◌<◌, ◌≡◌, false, List, length, Option, MatchOption}
 use Rattle.word.specs.Model.{Net, Model}
 use Rattle.tree.specs.States.{figure_of}
 use Rattle.tree.specs.Tree.{Visit, visits, tree}
@@ -79,10 +79,9 @@ pub record Ready (l : Lent) (a : Asked) : Type 0 where
   pub counted : KeptCounted a.counts a.rows
   pub within : a.counts.steps ≤ a.task.budget
 
--- What a walk over some visits hands back, from what is kept, w, on: where the budget has room for all of them, their totals; else counts whose steps
--- are above the budget. The steps tell which.
-abbrev pub EndsOver : Net → ℕ → Kept → List Visit → Counts → RowTable → Type 0
-EndsOver net budget w vs r rows = Walked net budget w vs (ltb budget r.steps) (kept_of r rows)
+-- Of a walk over some visits, from what is kept, w, on: the budget has room for all of them, and these are their totals.
+abbrev pub EndsWithin : Net → ℕ → Kept → List Visit → Counts → RowTable → Type 0
+EndsWithin net budget w vs c rows = Walked net budget w vs false (kept_of c rows)
 
 -- the visits beyond what is carried, with n steps left
 abbrev pub visits_from : Lent → ℕ → Carried → List Visit
@@ -90,24 +89,41 @@ visits_from l n c = carried_visits (net_in l) (limits_in l) n c
 
 -- the walk that is asked for ends so
 abbrev pub Ends : Lent → Asked → Counts → RowTable → Type 0
-Ends l a r rows = EndsOver (net_in l) a.task.budget (kept_of a.counts a.rows) (visits_from l a.left (carried_in l a)) r rows
+Ends l a c rows = EndsWithin (net_in l) a.task.budget (kept_of a.counts a.rows) (visits_from l a.left (carried_in l a)) c rows
+
+-- or the budget has no room for all that it would go over
+abbrev pub NoRoom : Lent → Asked → Type 0
+NoRoom l a = a.task.budget < a.counts.steps + length (visits_from l a.left (carried_in l a))
 
 -- the cut tree's own visits beyond the path up to the tip
 abbrev pub visits_beyond : Lent → Asked → List Visit
 visits_beyond l a = visits (net_in l) (limits_in l) a.left (path_of (net_in l) a.path)
 
--- what `walk` hands back, and the table of rows after it
-pub record WalkedBeyond (l : Lent) (a : Asked) (r : Counts) (rows : RowTable) : Type 0 where
-  pub ends : Ends l a r rows
-  pub counted : KeptCounted r rows
+-- what `walk` hands back where it went over them all: counts, and after it the entry counts, the path up to the tip and the table of rows
+pub record WentBeyond (l : Lent) (a : Asked) (c : Counts) (entered path : List ℕ) (rows : RowTable) : Type 0 where
+  pub ends : Ends l a c rows
+  pub counted : KeptCounted c rows
+  pub within : c.steps ≤ a.task.budget
   pub names_kept : NamesKept a.rows rows
-  -- the steps are the count of paths in the cut tree's definition, where the budget was not passed
-  pub steps_are : r.steps ≤ a.task.budget → r.steps ≡ a.counts.steps + length (visits_beyond l a)
+  pub set_back : entered ≡ a.entered
+  pub path_same : path ≡ a.path
+  -- the steps are the count of paths in the cut tree's definition
+  pub steps_are : c.steps ≡ a.counts.steps + length (visits_beyond l a)
 
--- what the walk from the start hands back, of the table of rows before and after
-pub record WalkedTree (ws : List ℕ) (budget : ℕ) (r : Counts) (before after : RowTable) : Type 0 where
-  pub ends : EndsOver (net_of ws) budget nothing_kept (tree (net_of ws) (described ws).limits) r after
-  pub counted : KeptCounted r after
+-- what `walk` hands back: none says that the budget has no room, and then nothing is said of what it left
+abbrev pub WalkedBeyond : Lent → Asked → Option Counts → (entered path : List ℕ) → RowTable → Type 0
+WalkedBeyond l a r entered path rows = MatchOption r (NoRoom l a) (λ c. WentBeyond l a c entered path rows)
+
+-- what the walk from the start hands back where it went over the whole tree, of the table of rows before and after
+pub record WentOver (ws : List ℕ) (budget : ℕ) (c : Counts) (before after : RowTable) : Type 0 where
+  pub ends : EndsWithin (net_of ws) budget nothing_kept (tree (net_of ws) (described ws).limits) c after
+  pub counted : KeptCounted c after
+  pub within : c.steps ≤ budget
   pub names_kept : NamesKept before after
   -- likewise, of the whole tree
-  pub steps_are : r.steps ≤ budget → r.steps ≡ length (tree (net_of ws) (described ws).limits)
+  pub steps_are : c.steps ≡ length (tree (net_of ws) (described ws).limits)
+
+-- what the walk from the start hands back: none says that the tree has more steps than the budget
+abbrev pub WalkedTree : List ℕ → ℕ → Option Counts → (before after : RowTable) → Type 0
+WalkedTree ws budget r before after =
+    MatchOption r (budget < length (tree (net_of ws) (described ws).limits)) (λ c. WentOver ws budget c before after)

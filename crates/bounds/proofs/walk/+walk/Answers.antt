@@ -1,6 +1,6 @@
 -- `walk` meets its contract. The steps that the path may still take fall at each call; the loop keeps, at each exit, that the totals so far with
 -- the visits still to make come to the totals of all. Assumes nothing.
-use mathlib.Core.Path.{◌≡◌, refl, sym, ap, ◌∙◌}
+use mathlib.Core.Path.{◌≡◌, refl, ap}
 use mathlib.Core.Bool.{true}
 use native.Mathlib.Omega.{arith}
 use borrow.Author.Rules.{rules}
@@ -8,14 +8,13 @@ use Rattle.std.specs.Prelude.{Some, None}
 use Rattle.tree.specs.Tree.{is_death, is_continued}
 use Rattle.path.specs.Internal.Outcomes.{outcome_of}
 use Rattle.path.proofs.DeathStems.{last_lower}
-use Rattle.rows.proofs.RowTotals.{names_then, marks_gathered}
-use Rattle.bounds.proofs.WalkMarks.{closed_marked, upper_lost, marked_at}
-use Rattle.bounds.proofs.WalkLoop.{exit_same, step_counted, ones_few, exit_ready, leaving_counted, loop_start, loop_end, loop_over, ends_steps}
-use Rattle.bounds.proofs.WalkTurns.{turn_of, judged_as, is_cut, there_small, judge_figures, before_is, last_step, before_known, whole_known, MarkedThere, mark_there}
+use Rattle.rows.proofs.RowTotals.{marks_gathered}
+use Rattle.bounds.proofs.WalkLoop.{exit_same, ones_few, exit_ready, leaving_counted, loop_start, loop_end, loop_over}
+use Rattle.bounds.proofs.WalkTurns.{turn_of, judged_as, is_cut, there_small, judge_figures, before_is, last_step, before_known, whole_known, mark_there}
 use Rattle.bounds.proofs.WalkTurns.{note_figures, death_noted, step_noted, cut_noted}
-use Rattle.bounds.proofs.WalkVisits.{visit_ended, before_fits, ready_there, visit_over, entries_back, path_back, visit_back}
+use Rattle.bounds.proofs.WalkVisits.{visit_ended, before_fits, ready_there, visit_over, visit_back}
 use Rattle.bounds.proofs.walk.+walk.Goals as goal
-use Rattle.bounds.proofs.walk.+walk.Goals.{in-Death, then-is_open, else-is_open, in-Continued+else-task-made, in-GeneratorsState, then-rows, else-rows}
+use Rattle.bounds.proofs.walk.+walk.Goals.{in-Death, in-Continued+in_ok-made-in-Continued, in-GeneratorsState}
 
 pub overflow_add-tip : goal.overflow_add-tip
 overflow_add-tip t c = omega (arith, ones_few c.args.prepared.now.filled c.requires)
@@ -23,15 +22,10 @@ overflow_add-tip t c = omega (arith, ones_few c.args.prepared.now.filled c.requi
 pub loop-x-init : goal.loop-x-init
 loop-x-init t c = loop_start c.args.prepared.now.filled c.requires (search rules) refl (c.empty-cache.ensures _ _ _)
 
-pub returns-then-made-task-clause-walked : goal.returns-then-made-task-clause-walked
-returns-then-made-task-clause-walked t c =
-    let ends = loop_over c.args.prepared.now.filled c.requires c.loop-x.invariant
-    (omega (arith, leaving_counted c.args.prepared.now.filled c.requires c.exits-leaving.ensures.len, c.loop-x-test.true)) c.if-made-task.true c.with_step.ensures in record {
-      ends = ends;
-      counted = step_counted c.with_step.ensures c.loop-x.invariant.counted;
-      names_kept = c.loop-x.invariant.names_kept;
-      steps_are = ends_steps c.args.prepared.now.filled c.requires c.loop-x.rows ends;
-    }
+pub returns-then-made-task : goal.returns-then-made-task
+returns-then-made-task t c =
+    loop_over c.args.prepared.now.filled c.requires c.loop-x.invariant
+    (omega (arith, leaving_counted c.args.prepared.now.filled c.requires c.exits-leaving.ensures.len, c.loop-x-test.true)) c.if-made-task.true
 
 pub exit_at-exit-requires : goal.exit_at-exit-requires
 exit_at-exit-requires t c = (
@@ -69,28 +63,18 @@ lower-lower-requires t c =
     (omega (arith, leaving_counted c.args.prepared.now.filled c.requires c.exits-leaving.ensures.len, c.loop-x-test.true)) c.if-made-task.false c.exits-leaving.ensures.value c.exit_at-exit.ensures in
     record { last_step = (last_step turn, c.of_whole-nth.ensures); cached = rw (before_is turn) turn.kept.cached }
 
-pub invariant_of-ended : goal.invariant_of-ended
-invariant_of-ended t c =
-    let turn = turn_of c.args.prepared.now.filled c.requires c.loop-x.invariant
-    (omega (arith, leaving_counted c.args.prepared.now.filled c.requires c.exits-leaving.ensures.len, c.loop-x-test.true)) c.if-made-task.false c.exits-leaving.ensures.value c.exit_at-exit.ensures in
-    record { known = whole_known turn }
-
-pub mark_ended-requires : goal.mark_ended-requires
-mark_ended-requires t c =
+pub mark_death-requires : goal.mark_death-requires
+mark_death-requires t c =
     let turn = turn_of c.args.prepared.now.filled c.requires c.loop-x.invariant
     (omega (arith, leaving_counted c.args.prepared.now.filled c.requires c.exits-leaving.ensures.len, c.loop-x-test.true)) c.if-made-task.false c.exits-leaving.ensures.value c.exit_at-exit.ensures in
     let k = note_figures turn in
-    (k.0, last_lower turn.filled (last_step turn) (before_known turn) c.lower-lower.ensures.lower_value, k.1)
+    (whole_known turn, k.0, last_lower turn.filled (last_step turn) (before_known turn) c.lower-lower.ensures.lower_value, k.1)
 
 pub note_death-requires : goal.note_death-requires
 note_death-requires t c =
     let turn = turn_of c.args.prepared.now.filled c.requires c.loop-x.invariant
     (omega (arith, leaving_counted c.args.prepared.now.filled c.requires c.exits-leaving.ensures.len, c.loop-x-test.true)) c.if-made-task.false c.exits-leaving.ensures.value c.exit_at-exit.ensures in
-    let mark : MarkedThere turn (Some c.lower-lower.result) c.if-is_open.rows =
-    elim c.if-is_open.branch [
-      | then-is_open d ↦ mark_there turn (Some c.lower-lower.result) d.rows-is d.mark_ended.ensures
-      | else-is_open d ↦ marked_at d.rows-is (closed_marked _ _ (sym c.is_open.ensures ∙ d.if-is_open.false))
-    ] in
+    let mark = mark_there turn (Some c.lower-lower.result) c.mark_death.ensures in
     let k = note_figures turn in (there_small turn, marks_gathered mark k.0, last_lower turn.filled (last_step turn) (before_known turn) c.lower-lower.ensures.lower_value, k.1)
 
 pub overflow_add-entered : goal.overflow_add-entered
@@ -108,8 +92,8 @@ bounds-entered-to-in-Continued t c =
     (omega (arith, leaving_counted c.args.prepared.now.filled c.requires c.exits-leaving.ensures.len, c.loop-x-test.true)) c.if-made-task.false c.exits-leaving.ensures.value c.exit_at-exit.ensures in
     let h = there_small turn in omega arith
 
-pub walk-made-requires : goal.walk-made-requires
-walk-made-requires t c =
+pub walk-requires : goal.walk-requires
+walk-requires t c =
     let on : is_continued (outcome_of c.judge-outcome.result) ≡ true = ap (λ o. is_continued (outcome_of o)) c.in-Continued.is in
     let turn = turn_of c.args.prepared.now.filled c.requires c.loop-x.invariant
     (omega (arith, leaving_counted c.args.prepared.now.filled c.requires c.exits-leaving.ensures.len, c.loop-x-test.true)) c.if-made-task.false c.exits-leaving.ensures.value c.exit_at-exit.ensures in
@@ -123,46 +107,26 @@ bounds-entered-to-in-Continued-2 t c =
     (omega (arith, leaving_counted c.args.prepared.now.filled c.requires c.exits-leaving.ensures.len, c.loop-x-test.true)) c.if-made-task.false c.exits-leaving.ensures.value c.exit_at-exit.ensures in
     let h = there_small turn in omega arith
 
-pub returns-then-task-made : goal.returns-then-task-made
-returns-then-task-made t c =
+pub returns-in_err-made-in-Continued : goal.returns-in_err-made-in-Continued
+returns-in_err-made-in-Continued t c =
     let on : is_continued (outcome_of c.judge-outcome.result) ≡ true = ap (λ o. is_continued (outcome_of o)) c.in-Continued.is in
     let turn = turn_of c.args.prepared.now.filled c.requires c.loop-x.invariant
     (omega (arith, leaving_counted c.args.prepared.now.filled c.requires c.exits-leaving.ensures.len, c.loop-x-test.true)) c.if-made-task.false c.exits-leaving.ensures.value c.exit_at-exit.ensures in
     let judged = judged_as c.judge-outcome.result turn c.is_named_end-named.ensures c.exit_count-exits.ensures.0 c.judge-outcome.ensures in
     let visited = step_noted turn c.judge-outcome.result judged on c.with_step-so_far.ensures in
-    let ends = visit_over visited on _ c.walk-made.ensures.walked.ends c.if-task-made.true in
-    record {
-      walked = record {
-        ends = ends;
-        counted = c.walk-made.ensures.walked.counted;
-        names_kept = names_then turn.kept.names_kept c.walk-made.ensures.walked.names_kept;
-        steps_are = ends_steps turn.filled turn.ready _ ends;
-      };
-      set_back = entries_back visited on _ c.walk-made.ensures.set_back;
-      path_same = path_back visited on _ c.walk-made.ensures.path_same;
-    }
+    rw c.from_residual.ensures (visit_over visited on c.in_err-made-in-Continued.ensures)
 
-pub invariant_of-ended-then-rows : goal.invariant_of-ended-then-rows
-invariant_of-ended-then-rows t c =
+pub mark_cut-requires : goal.mark_cut-requires
+mark_cut-requires t c =
     let turn = turn_of c.args.prepared.now.filled c.requires c.loop-x.invariant
     (omega (arith, leaving_counted c.args.prepared.now.filled c.requires c.exits-leaving.ensures.len, c.loop-x-test.true)) c.if-made-task.false c.exits-leaving.ensures.value c.exit_at-exit.ensures in
-    record { known = whole_known turn }
-
-pub mark_ended-requires-then-rows : goal.mark_ended-requires-then-rows
-mark_ended-requires-then-rows t c =
-    let turn = turn_of c.args.prepared.now.filled c.requires c.loop-x.invariant
-    (omega (arith, leaving_counted c.args.prepared.now.filled c.requires c.exits-leaving.ensures.len, c.loop-x-test.true)) c.if-made-task.false c.exits-leaving.ensures.value c.exit_at-exit.ensures in
-    let k = note_figures turn in (k.0, tt, k.1)
+    let k = note_figures turn in (whole_known turn, k.0, k.1)
 
 pub note_cut-requires : goal.note_cut-requires
 note_cut-requires t c =
     let turn = turn_of c.args.prepared.now.filled c.requires c.loop-x.invariant
     (omega (arith, leaving_counted c.args.prepared.now.filled c.requires c.exits-leaving.ensures.len, c.loop-x-test.true)) c.if-made-task.false c.exits-leaving.ensures.value c.exit_at-exit.ensures in
-    let mark : MarkedThere turn None c.if-rows.rows =
-    elim c.if-rows.branch [
-      | then-rows d ↦ mark_there turn None d.rows-is d.mark_ended-then-rows.ensures
-      | else-rows d ↦ marked_at d.rows-is (upper_lost _ _ d.if-rows.false refl)
-    ] in
+    let mark = mark_there turn None c.mark_cut.ensures in
     let k = note_figures turn in (marks_gathered mark k.0, k.1)
 
 pub loop-x-preserved : goal.loop-x-preserved
@@ -173,11 +137,7 @@ loop-x-preserved t c =
     let o = c.judge-outcome.result in
     elim c.match-outcome.branch [
       | in-Death w ↦
-          let mark : MarkedThere turn (Some w.lower-lower.result) w.if-is_open.rows =
-          elim w.if-is_open.branch [
-            | then-is_open d ↦ mark_there turn (Some w.lower-lower.result) d.rows-is d.mark_ended.ensures
-            | else-is_open d ↦ marked_at d.rows-is (closed_marked _ _ (sym w.is_open.ensures ∙ d.if-is_open.false))
-          ] in
+          let mark = mark_there turn (Some w.lower-lower.result) w.mark_death.ensures in
           let lower = rw (before_is turn) at w.lower-lower.ensures.lower_value in
           exit_same w.entered-is w.path-is w.made-is w.cache-is w.rows-is
           (visit_ended
@@ -185,28 +145,18 @@ loop-x-preserved t c =
           (last_lower turn.filled (last_step turn) (before_known turn) w.lower-lower.ensures.lower_value)
           lower w.with_death-made.ensures mark w.note_death.ensures (rw (before_is turn) at w.lower-lower.ensures.cached_still))
           (ap (λ o. is_continued (outcome_of o)) w.in-Death.is))
-      | in-Continued+else-task-made w ↦
+      | in-Continued+in_ok-made-in-Continued w ↦
           let on = ap (λ o. is_continued (outcome_of o)) w.in-Continued.is in
           exit_same w.entered-is w.path-is w.made-is w.cache-is w.rows-is
-          (visit_back (step_noted turn o judged on w.with_step-so_far.ensures) on _ w.walk-made.ensures.walked.ends _ _ w.walk-made.ensures.set_back
-          w.walk-made.ensures.path_same (search rules) w.walk-made.ensures.walked.counted w.walk-made.ensures.walked.names_kept w.if-task-made.false)
+          (visit_back (step_noted turn o judged on w.with_step-so_far.ensures) on w.in_ok-made-in-Continued.ensures (search rules))
       | in-GeneratorsState w ↦
           let cut = is_cut w.in-GeneratorsState.is in
-          let mark : MarkedThere turn None w.if-rows.rows =
-          elim w.if-rows.branch [
-            | then-rows d ↦ mark_there turn None d.rows-is d.mark_ended-then-rows.ensures
-            | else-rows d ↦ marked_at d.rows-is (upper_lost _ _ d.if-rows.false refl)
-          ] in
+          let mark = mark_there turn None w.mark_cut.ensures in
           exit_same w.entered-is w.path-is w.made-is w.cache-is w.rows-is
           (visit_ended (cut_noted turn o judged cut.alive cut.ends w.with_cut-made.ensures mark w.note_cut.ensures) cut.ends)
     ]
 
-pub returns-clause-walked : goal.returns-clause-walked
-returns-clause-walked t c =
-    let ends = loop_end c.args.prepared.now.filled c.requires c.loop-x.invariant (omega (arith, leaving_counted c.args.prepared.now.filled c.requires c.exits-leaving.ensures.len, c.loop-x-test.false)) in
-    record {
-      ends = ends;
-      counted = c.loop-x.invariant.counted;
-      names_kept = c.loop-x.invariant.names_kept;
-      steps_are = ends_steps c.args.prepared.now.filled c.requires c.loop-x.rows ends;
-    }
+pub returns : goal.returns
+returns t c =
+    loop_end c.args.prepared.now.filled c.requires c.loop-x.invariant
+    (omega (arith, leaving_counted c.args.prepared.now.filled c.requires c.exits-leaving.ensures.len, c.loop-x-test.false))
