@@ -2,9 +2,7 @@
 #![tactic(auto)]
 
 ghost use Rattle.std.specs.Prelude.{◌≡◌, ◌≤◌};
-ghost use Rattle.model.specs.Promise.{summary};
 ghost use Rattle.tree.specs.Internal.Tally as running;
-ghost use Rattle.tables.specs.Internal.Described.{described};
 ghost use Rattle.rows.specs.Internal.Table.{NoTotals, TableGathered};
 ghost use Rattle.bounds.specs.Internal.Walk.{WalkedTree, kept_of, totals_of};
 ghost use Rattle.bounds.specs.Internal.Measured.{Measured};
@@ -14,7 +12,7 @@ ghost use Rattle.bounds.specs.Rows.{PromisedRows};
 use crate::walk::{Task, walk};
 use figure::{Arithmetic, Direction, Figure, Rounded};
 use model::index::Index;
-use model::{Accepted, read};
+use model::read;
 use path::counts::Counts;
 use path::exits::Tip;
 use path::prepared::Prepared;
@@ -47,13 +45,14 @@ pub struct Report {
 }
 
 // The counts of the walk over the tree of an accepted model, all totals kept in `rows`; none where the tree has more steps than the budget.
-fn walked(model: Indexed, a: Accepted, budget: u64, rows: &mut RowTable) -> Option<Counts>
-    requires accepted { (a ≡ summary (described model.words.now)) × (budget ≤ 1000000) }
+fn walked(model: Indexed, budget: u64, rows: &mut RowTable) -> Option<Counts>
+    requires allowed { budget ≤ 1000000 }
     requires no_totals { NoTotals rows.old }
     ensures { WalkedTree model.entry.words.now budget result rows.old rows.new }
 {
+    let a = model.accepted;
     let mut table = Table::empty();
-    fill(model, a, &mut table);
+    fill(model, &mut table);
     let prepared = Prepared {
         words: model.words,
         index: model.index,
@@ -118,15 +117,16 @@ fn measured(words: &[u32], budget: u64, lent: usize, rows: &mut RowTable) -> Res
     let model = Indexed {
         words,
         index: &index,
+        accepted: a,
     };
-    name_rows(model, a, rows);
+    name_rows(model, rows);
     let needed = rows.count;
     if lent < needed {
         *rows = RowTable::empty();
         return Err(Refusal::TooFewRows(needed));
     }
-    let Some(c) = walked(model, a, budget, rows) else {
-        name_rows(model, a, rows);
+    let Some(c) = walked(model, budget, rows) else {
+        name_rows(model, rows);
         return Err(Refusal::OverBudget);
     };
     Ok(reported(c, rows))

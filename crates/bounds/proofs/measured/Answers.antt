@@ -9,10 +9,8 @@ use Rattle.bounds.proofs.RowsMeasured.{measured_refused, measured_few, measured_
 use Rattle.bounds.proofs.measured.Goals as goal
 
 pub invariant_of-model : goal.invariant_of-model
-invariant_of-model c = record { indexes = accepted_indexes c.in_ok-a.ensures.answer }
-
-pub name_rows-requires : goal.name_rows-requires
-name_rows-requires c = accepted_summary c.in_ok-a.ensures.answer
+invariant_of-model c =
+    let a = c.in_ok-a.ensures.answer in record { indexes = accepted_indexes a; accepted_is = accepted_summary a }
 
 pub returns-then-lent-needed : goal.returns-then-lent-needed
 returns-then-lent-needed c =
@@ -20,11 +18,7 @@ returns-then-lent-needed c =
 
 pub walked-requires : goal.walked-requires
 walked-requires c =
-    let a = c.in_ok-a.ensures.answer in
-    record { accepted = (accepted_summary a, accepted_budget a); no_totals = c.name_rows.ensures.no_totals }
-
-pub name_rows-requires-in_default : goal.name_rows-requires-in_default
-name_rows-requires-in_default c = accepted_summary c.in_ok-a.ensures.answer
+    record { allowed = accepted_budget c.in_ok-a.ensures.answer; no_totals = c.name_rows.ensures.no_totals }
 
 pub returns-in_default : goal.returns-in_default
 returns-in_default c =
