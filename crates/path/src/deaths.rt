@@ -71,6 +71,8 @@ fn new_stem(walked: &Walked, tip: Tip, exit: Exit) -> Option<Stem<Figure>>
 }
 
 // The lower of a death path from its stem, its last step being of a class, with its share and factor; it is the nth of class 1 if it is of class 1.
+// Built in at its three calls: as a function of its own it cost the trees of deaths 3 to 5 percent.
+#[inline(always)]
 fn lower_of(
     stem: &Option<Stem<Figure>>,
     class: Class,
