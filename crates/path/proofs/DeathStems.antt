@@ -13,7 +13,7 @@ use Rattle.std.specs.Prelude.{Option, None, Some}
 use Rattle.figure.specs.declared.Figure.{Figure}
 use Rattle.figure.specs.Rounding.{none, up, down}
 use Rattle.figure.specs.Operands.{Sized}
-use Rattle.figure.specs.Operations.{times_up, times_down, plus_up, divided_down, times_ten, of_whole}
+use Rattle.figure.specs.Operations.{times_up, times_down, divided_down, times_ten, of_whole}
 use Rattle.figure.specs.Losses.{keeps, times_keeps}
 use Rattle.figure.proofs.Sized.{sized-≤}
 use Rattle.word.specs.Internal.Lists.{Each}
@@ -21,7 +21,7 @@ use Rattle.word.specs.Model.{Transition, Net, Model}
 use Rattle.model.specs.Index.{transition}
 use Rattle.model.specs.Internal.Valid.{Valid}
 use Rattle.tree.specs.Paths.{Path, Class, class1, class, counts_1, class1_count}
-use Rattle.tree.specs.States.{mission_time, rate_sum}
+use Rattle.tree.specs.States.{mission_time}
 use Rattle.tree.specs.Upper.{share}
 use Rattle.tree.specs.Grains.{grain_sum}
 use Rattle.tree.specs.Lower.{lower_product, path_rate_sum, remaining_time, last_factor, lower_with, lower}
