@@ -22,8 +22,8 @@ fn adds_exactly(total: Figure, figure: Figure) -> bool
 }
 
 // Notes in the marks an ended path, before it is added to the totals: a death, which has a lower, or a cut, on which the report's lower does not rest.
-// One function for both, though it asks twice which it is: tried in two, which the compiler built into the walk, where the tree of cuts took 1.09 times as
-// long, and those of deaths up to 1.02.
+// kept: (d) one function for both, though it asks twice which it is: in two, what is asked of an upper would stand twice. Tried too: the compiler built the
+// two into the walk, where the tree of cuts took 1.09 times as long, and those of deaths up to 1.02.
 fn mark_ended(walked: &Walked, lower: Option<Figure>, upper: Figure, rows: &mut RowTable)
     requires { TableGathered 999999 rows.old × IfSome lower (Sized 9 35000) × Sized 9 35000 upper }
     ensures { EndedNoted lower (net_of walked.now.prepared.now.words.now) (path_of (net_of walked.now.prepared.now.words.now) walked.now.path.now) upper rows.old rows.new }
@@ -43,7 +43,8 @@ fn mark_ended(walked: &Walked, lower: Option<Figure>, upper: Figure, rows: &mut 
 }
 
 // Notes a death in the marks, while one of them can still be 1.
-// What a `Walked` has is lent apart, here and below: tried with one that the walk makes before the test, and the tree of cuts took 1.04 times as long.
+// kept: (d) what a `Walked` has is lent apart, here and below, since there is need of one behind the test alone, which fails at all but a few paths of a large
+// tree. Tried too: with one that the walk makes before the test the tree of cuts took 1.04 times as long.
 pub(crate) fn mark_death(
     prepared: &Prepared,
     path: &[u16],

@@ -11,7 +11,8 @@ use word::{Refusal, faults};
 
 // Reads the words that name states, from place 4 on, and begins the index, whatever it held, with these: the place behind them, where the transitions
 // begin.
-// kept: (d) `words`, `a` and the bound of their length: `read` calls three functions one after the other, and each would take a struct of these apart
+// kept: (d) `words` and `a` side by side in the three functions that `read` calls one after the other, and the bound of the words' length in two: `read` would
+// make a struct of these for the three alone, and a `Progress` has besides where reading stands
 pub(crate) fn name_states(words: &[u32], a: Accepted, index: &mut Index) -> Result<usize, Refusal>
     requires opened { IsOpened words.now a }
     requires words_len_bound { length words.now ≤ most_words }

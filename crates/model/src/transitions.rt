@@ -117,7 +117,8 @@ impl Progress<'_> {
 }
 
 // All transitions, from the place `first` on, up to the end.
-// kept: (d) `words`, `a` and the bound of their length: `read` calls three functions one after the other, and each would take a struct of these apart
+// kept: (d) `words` and `a` side by side in the three functions that `read` calls one after the other, and the bound of the words' length in two: `read` would
+// make a struct of these for the three alone, and a `Progress` has besides where reading stands
 pub(crate) fn list(
     words: &[u32],
     a: Accepted,

@@ -29,7 +29,7 @@ impl Sums {
     };
 
     // With one death path more.
-    // kept: (d) two figures and no struct, here and in `note_death`: each goes to its own total, rounded its own way.
+    // kept: (d) two figures and no struct, here, in `note_death` and in `mark_death` of `bounds`: each goes to its own total, rounded its own way.
     fn with(self, lower: Figure, upper: Figure) -> Sums
         requires { SumsGathered 999999 self × Sized 9 35000 lower × Sized 9 35000 upper }
         ensures { TotalsWith lower upper self result }

@@ -24,7 +24,8 @@ mod steps;
 pub mod table;
 
 // The number of transitions: that of the exits of the states 1 to `states`.
-// kept: (d) states ≤ 1000, here and in two functions of `model`: any index and any number of states may be asked for, and an `Accepted` may be made by hand.
+// kept: (d) states ≤ 1000, here and in two functions of `model`: any index may be asked, of any number of states up to that, and an `Accepted` may be made by
+// hand.
 pub fn transition_count(index: &Index, states: usize) -> usize
     requires { states ≤ 1000 }
     ensures { result ≡ exit_total index.now states }
