@@ -102,9 +102,15 @@ module _ {l : Lent} {a : Asked} (filled : Filled l) (ready : Ready l a) where
   pub is_exit : {i : ℕ} → i < exit_count l.index a.tip.state → i < length (exits (net_in l) a.tip.state)
   is_exit h = omega (arith, count_is)
 
-  -- so many the slice of them has
-  pub leaving_counted : {n : ℕ} → (exit_count l.index a.tip.state ≤ 16 → n ≡ exit_count l.index a.tip.state) → n ≡ exit_count l.index a.tip.state
-  leaving_counted if_few = if_few (counts_few (model_in l) l.words l.index valid filled.indexes.indexed a.tip.state state_small)
+  -- what the code knows of the length of the slice of them: it has as many unless there are more than 16
+  abbrev pub Counted : ℕ → Type 0
+  Counted n = exit_count l.index a.tip.state ≤ 16 → n ≡ exit_count l.index a.tip.state
+
+  leaving_count : {n : ℕ} → Counted n → n ≡ exit_count l.index a.tip.state
+  leaving_count counted = counted (counts_few (model_in l) l.words l.index valid filled.indexes.indexed a.tip.state state_small)
+
+  pub leaving_more : {i n : ℕ} → Counted n → i < n → i < exit_count l.index a.tip.state
+  leaving_more counted below = rw (leaving_count counted) at below
 
   -- the exit i, as the slice of the state's exits has it
   pub exit_slot : {i : ℕ} {leaving : List ℕ} → i < exit_count l.index a.tip.state → leaving ≡ exits_of l.index a.tip.state
@@ -112,10 +118,10 @@ module _ {l : Lent} {a : Asked} (filled : Filled l) (ready : Ready l a) where
   exit_slot {i} h is =
       ap (λ (xs : List ℕ). get_or xs i 0) is ∙ get_or-take (exit_count l.index a.tip.state) (exits_at l.index a.tip.state).slots i 0 h
 
-  pub exit_ready : {i : ℕ} {leaving : List ℕ} → i < exit_count l.index a.tip.state → leaving ≡ exits_of l.index a.tip.state
+  pub exit_ready : {i : ℕ} {leaving : List ℕ} → leaving ≡ exits_of l.index a.tip.state → Counted (length leaving) → i < length leaving
       → ExitReady l a.tip (get_or leaving i 0)
-  exit_ready {i} h is =
-      let x = filled.indexes.indexed in
+  exit_ready {i} is counted below =
+      let x = filled.indexes.indexed in let h = leaving_more counted below in
       rw (exit_slot h is) (record {
         index = slot_below (model_in l) l.words l.index valid x a.tip.state i state_small h;
         leaves = slot_leaves (model_in l) l.words l.index valid x a.tip.state i state_small h;
@@ -166,8 +172,8 @@ module _ {l : Lent} {a : Asked} (filled : Filled l) (ready : Ready l a) where
     pub steps_few : h.made.steps ≤ 1000000
     steps_few = omega (arith, kept.going.within, ready.task_is.budget_high)
 
-    pub loop_end : exit_count l.index a.tip.state ≤ h.i → WentBeyond l a h.made h.entered (take a.tip.len h.taken) h.rows
-    loop_end all = record {
+    pub loop_end : {n : ℕ} → Counted n → n ≤ h.i → WentBeyond l a h.made h.entered (take a.tip.len h.taken) h.rows
+    loop_end counted all = record {
       ends = ends;
       counted = kept.counted;
       within = kept.going.within;
@@ -181,10 +187,10 @@ module _ {l : Lent} {a : Asked} (filled : Filled l) (ready : Ready l a) where
         ends =
             subst (λ n. WalkedFrom n false (kept_of h.made h.rows)) all_left
             (exits_end (net_in l) (limits_in l) a.task.budget (a.left - 1) here (kept_of a.counts a.rows) h.i (kept_of h.made h.rows)
-            (omega (arith, count_is)) kept.going)
+            (omega (arith, count_is, leaving_count counted, all)) kept.going)
 
     -- the budget is used up, and exit i is still to walk
-    pub loop_over : h.i < exit_count l.index a.tip.state → h.made.steps ≡ a.task.budget → NoRoom l a
-    loop_over more full =
+    pub loop_over : {n : ℕ} → Counted n → h.i < n → h.made.steps ≡ a.task.budget → NoRoom l a
+    loop_over counted below full =
         no_room (exit_over (net_in l) (limits_in l) a.task.budget (a.left - 1) here (kept_of a.counts a.rows) h.i (kept_of h.made h.rows)
-        (is_exit more) kept.going full)
+        (is_exit (leaving_more counted below)) kept.going full)

@@ -49,7 +49,7 @@ use Rattle.bounds.specs.Internal.Marks.{asked_marks}
 use Rattle.bounds.specs.Internal.Walk.{Asked, carried_in, totals_of, kept_of, KeptCounted, Ready}
 use Rattle.path.proofs.PathSums.{path_longer, known_more}
 use Rattle.path.proofs.VisitNoted.{note_death, note_step, note_cut}
-use Rattle.bounds.proofs.WalkLoop.{Held, AtExit, step_counted, state_small, exit_slot, room, path_short, steps_valid}
+use Rattle.bounds.proofs.WalkLoop.{Held, AtExit, step_counted, state_small, Counted, leaving_more, exit_slot, room, path_short, steps_valid}
 
 module _ (l : Lent) (a : Asked) (h : Held) (x : Exit) where
   -- exit i is there and was read, and the budget has room for a step
@@ -92,9 +92,11 @@ module _ (l : Lent) (a : Asked) (h : Held) (x : Exit) where
 
 -- ---- what the walk's proof knows once the exit was read, and once it was judged
 
-pub turn_of : {l : Lent} {a : Asked} {h : Held} {x : Exit} {leaving : List ℕ} → Filled l → Ready l a → AtExit l a h → h.i < exit_count l.index a.tip.state
-    → (h.made.steps ≡ a.task.budget → ⊥) → leaving ≡ exits_of l.index a.tip.state → ExitOf l a.tip (get_or leaving h.i 0) x → Turn l a h x
-turn_of filled ready kept more some is exit =
+pub turn_of : {l : Lent} {a : Asked} {h : Held} {x : Exit} {leaving : List ℕ} (filled : Filled l) (ready : Ready l a) → AtExit l a h
+    → leaving ≡ exits_of l.index a.tip.state → Counted filled ready (length leaving) → h.i < length leaving → (h.made.steps ≡ a.task.budget → ⊥)
+    → ExitOf l a.tip (get_or leaving h.i 0) x → Turn l a h x
+turn_of filled ready kept is counted below some exit =
+    let more = leaving_more filled ready counted below in
     record { filled = filled; ready = ready; kept = kept; more = more; some = some; exit = rw (exit_slot filled ready more is) at exit }
 
 pub judged_as : {l : Lent} {a : Asked} {h : Held} {x : Exit} {ends : Bool} {n : ℕ} (o : Coded) → Turn l a h x → ends ≡ named_end l.index x.tip.state n

@@ -53,10 +53,20 @@ pub lower_first : (a b : Figure) → le_z b.power a.power ≡ false → (b, a) �
 unfolding in_order
 lower_first a b h = rw (h, in_order) refl
 
+-- what holds of the two as they stand, where the second's power is not above the first's, and of the two turned round, where it is, holds of them in order
+in_either : (P : Figure × Figure → Type 0) (a b : Figure) → (le_z b.power a.power ≡ true → P (a, b)) → (le_z b.power a.power ≡ false → P (b, a))
+    → {r : Figure × Figure} → r ≡ in_order a b → P r
+in_either P a b f g {r} e = by_test (le_z b.power a.power) refl
+  where
+    by_test : (t : Bool) → le_z b.power a.power ≡ t → P r
+    by_test true h = rw (e ∙ sym (higher_first a b h)) (f h)
+    by_test false h = rw (e ∙ sym (lower_first a b h)) (g h)
+
 -- neither of two figures is zero
 module _ {K : ℕ} {a b : Figure} (sa : Sized K 200000 a) (sb : Sized K 200000 b) (na : a.digits ≡ 0 → ⊥) (nb : b.digits ≡ 0 → ⊥) where
   pub ordered : {r : Figure × Figure} → r ≡ in_order a b → Ordered K r.0 r.1
-  ordered {r} e = by_test (le_z b.power a.power) refl
+  ordered =
+      in_either (λ r. Ordered K r.0 r.1) a b (λ h. in_turn a b sa sb na nb (rw h tt)) (λ h. in_turn b a sb sa nb na (turned a.power b.power h))
     where
       in_turn : (x y : Figure) → Sized K 200000 x → Sized K 200000 y → (x.digits ≡ 0 → ⊥) → (y.digits ≡ 0 → ⊥) → T (le_z y.power x.power) → Ordered K x y
       in_turn x y sx sy nx ny h = record {
@@ -66,10 +76,6 @@ module _ {K : ℕ} {a b : Figure} (sa : Sized K 200000 a) (sb : Sized K 200000 b
         second_some = omega (arith, ny);
         order = record { le = h };
       }
-
-      by_test : (t : Bool) → le_z b.power a.power ≡ t → Ordered K r.0 r.1
-      by_test true h = rw (e ∙ sym (higher_first a b h)) (in_turn a b sa sb na nb (rw h tt))
-      by_test false h = rw (e ∙ sym (lower_first a b h)) (in_turn b a sb sa nb na (turned a.power b.power h))
 
 pub alignable : {K : ℕ} {a b : Figure} → Digits K → Ordered K a b → Alignable a b
 alignable k o = record {
@@ -172,11 +178,8 @@ module _ (to : Direction) {K : ℕ} (k : Digits K) where
       ∙ ap (rounded to K) (sym (value_plus a b))
 
   pub sum_in_order : (a b : Figure) {r : Figure × Figure} → r ≡ in_order a b → rounded to K (value r.0 +ᶠ value r.1) ≡ rounded to K (value a +ᶠ value b)
-  sum_in_order a b {r} e = by_test (le_z b.power a.power) refl
-    where
-      by_test : (t : Bool) → le_z b.power a.power ≡ t → rounded to K (value r.0 +ᶠ value r.1) ≡ rounded to K (value a +ᶠ value b)
-      by_test true h = rw (e ∙ sym (higher_first a b h)) refl
-      by_test false h = rw (e ∙ sym (lower_first a b h)) (sum_swap a b)
+  sum_in_order a b =
+      in_either (λ r. rounded to K (value r.0 +ᶠ value r.1) ≡ rounded to K (value a +ᶠ value b)) a b (λ h. refl) (λ h. sum_swap a b)
 
   pub nothing_added : (a b : Figure) → a.digits ≡ 0 → rounded to K (value b) ≡ rounded to K (value a +ᶠ value b)
   nothing_added a b z =

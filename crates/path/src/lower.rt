@@ -48,7 +48,7 @@ impl<A: Arithmetic> Spent<A> {
     }
 }
 
-// That of a path.
+// What the steps of a path have spent.
 pub(crate) fn spent_on<A: Arithmetic>(walked: &Walked) -> Spent<A>
     ensures { SpentIs A.Is (net_of walked.now.prepared.now.words.now) (path_of (net_of walked.now.prepared.now.words.now) walked.now.path.now) result }
 {

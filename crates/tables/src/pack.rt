@@ -17,8 +17,7 @@ const MARK: u64 = 1 << 51;
 const RAISED: i32 = 1 << 20;
 
 // A figure, or a number of grains, with its mark: whether no operation that it rests on lost anything.
-// kept: (a) 64 bits and no `Rounded`: the table stands on the stack of a library that allocates nothing, and would be three times
-// as large.
+// kept: (a) 64 bits and no `Rounded`: the table stands on the stack of a library that allocates nothing, and would be three times as large.
 // kept: (d) a count of grains has no type of its own, since it shares the mark's bit and its reading; a table's field says which it is
 #[derive(Clone, Copy, Default)]
 pub struct Packed {

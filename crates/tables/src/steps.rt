@@ -42,9 +42,9 @@ impl Step {
 }
 
 // What class 2 takes off 1, of E, the mean, M, T2 and n grains.
-// kept: (d) here and below a formula asks of its operands a width of 2,000, of a divisor that it is above zero, and from 1 to 1,000,000 grains. What comes in
-// is an exit's of 40, a state's of 500 or an operation's result, so that a type with these bounds would be made anew, and proved, at each call. They stand side
-// by side as the formulas of document 01 name them.
+// kept: (d) here and below a formula asks of its operands nine digits and a power from -2,001 to 2,000 (`Sized`), of a divisor that it is above zero, and from
+// 1 to 1,000,000 grains. What comes in has another range, an exit's 40, a state's 500, an operation's result its own, so that a type with these bounds would be
+// made anew, and proved, at each call. They stand side by side as the formulas of document 01 name them.
 fn class2_loss(rate: Rounded, mean: Rounded, moment: Rounded, time2: Rounded, n: u64) -> Rounded
     requires sized { Sized 9 2000 rate.figure × Sized 9 2000 mean.figure × Sized 9 2000 moment.figure × Sized 9 2000 time2.figure }
     requires digits_nonzero { (0 < time2.figure.digits) × (1 ≤ n) × (n ≤ 1000000) }
