@@ -152,8 +152,8 @@ module _ {ws : List ℕ} {index : Index} (indexes : Indexes ws index) {a : Accep
       tree_over : (table : Table) → NoRoom (lent ws index table) first → budget < length (tree m.net m.limits)
       tree_over table past = omega (arith, past, ap (λ c. c.steps) none_yet, ap length (whole table))
 
-      tree_within : (table : Table) (c : Counts) {entered path : List ℕ} (after : RowTable)
-          → WentBeyond (lent ws index table) first c entered path after → WentOver ws budget c rows after
+      tree_within : (table : Table) (c : Counts) {path : List ℕ} (after : RowTable)
+          → WentBeyond (lent ws index table) first c path after → WentOver ws budget c rows after
       unfolding path_of tree
       tree_within table c after went = record {
         ends = subst (λ (w : Kept). EndsWithin m.net budget w (tree m.net m.limits) c after) nothing_so_far
@@ -165,7 +165,7 @@ module _ {ws : List ℕ} {index : Index} (indexes : Indexes ws index) {a : Accep
       }
 
       -- and the walk from there is the one over the tree
-      pub walk_tree : (table : Table) (r : Option Counts) (entered path : List ℕ) (after : RowTable)
-          → WalkedBeyond (lent ws index table) first r entered path after → WalkedTree ws budget r rows after
-      walk_tree table None _ _ _ past = tree_over table past
-      walk_tree table (Some c) _ _ after went = tree_within table c after went
+      pub walk_tree : (table : Table) (r : Option Counts) (path : List ℕ) (after : RowTable)
+          → WalkedBeyond (lent ws index table) first r path after → WalkedTree ws budget r rows after
+      walk_tree table None _ _ past = tree_over table past
+      walk_tree table (Some c) _ after went = tree_within table c after went

@@ -172,13 +172,12 @@ module _ {l : Lent} {a : Asked} (filled : Filled l) (ready : Ready l a) where
     pub steps_few : h.made.steps ≤ 1000000
     steps_few = omega (arith, kept.going.within, ready.task_is.budget_high)
 
-    pub loop_end : {n : ℕ} → Counted n → n ≤ h.i → WentBeyond l a h.made h.entered (take a.tip.len h.taken) h.rows
+    pub loop_end : {n : ℕ} → Counted n → n ≤ h.i → WentBeyond l a h.made (take a.tip.len h.taken) h.rows
     loop_end counted all = record {
       ends = ends;
       counted = kept.counted;
       within = kept.going.within;
       names_kept = kept.names_kept;
-      set_back = kept.set_back;
       path_same = kept.same;
       steps_are = ends_steps h.made h.rows ends;
     }

@@ -129,11 +129,10 @@ module _ {l : Lent} {a : Asked} {h : Held} {x : Exit} {o : Coded} {after : Count
     abbrev pub asked_there : Asked
     asked_there = asked a.task x.tip (a.left - 1) entered_there (take x.tip.len (written w)) after rows
 
-    -- an entry count that the walk beyond left as it was is set back
-    entries_back : (entered : List ℕ) → entered ≡ entered_there → set entered x.tip.state (get_or h.entered x.tip.state 0) ≡ a.entered
-    entries_back entered e =
-        ap (λ k. set k x.tip.state (get_or h.entered x.tip.state 0)) e
-        ∙ set-set h.entered x.tip.state (get_or h.entered x.tip.state 0 + 1) (get_or h.entered x.tip.state 0)
+    -- after the walk beyond the entry count is set back
+    entries_back : set entered_there x.tip.state (get_or h.entered x.tip.state 0) ≡ a.entered
+    entries_back =
+        set-set h.entered x.tip.state (get_or h.entered x.tip.state 0 + 1) (get_or h.entered x.tip.state 0)
         ∙ set-get_or h.entered x.tip.state 0
         ∙ w.kept.set_back
 
@@ -183,10 +182,10 @@ module _ {l : Lent} {a : Asked} {h : Held} {x : Exit} {o : Coded} {after : Count
         (record { over_is = sym (lt-ltb a.task.budget _ past); totals_are = λ z. absurd (true≢false z) }) refl)
 
     -- it hands back the counts c, with the table rows'
-    pub visit_back : {c : Counts} {entered taken : List ℕ} {rows' : RowTable} → WentBeyond l asked_there c entered (take x.tip.len taken) rows'
-        → length taken ≡ 24 → AtExit l a (held (h.i + 1) (set entered x.tip.state (get_or h.entered x.tip.state 0)) taken c cache rows')
-    visit_back {c} {entered} {taken} {rows'} went size = record {
-      set_back = entries_back entered went.set_back;
+    pub visit_back : {c : Counts} {taken : List ℕ} {rows' : RowTable} → WentBeyond l asked_there c (take x.tip.len taken) rows'
+        → length taken ≡ 24 → AtExit l a (held (h.i + 1) (set entered_there x.tip.state (get_or h.entered x.tip.state 0)) taken c cache rows')
+    visit_back {c} {taken} {rows'} went size = record {
+      set_back = entries_back;
       size = size;
       same = path_back taken went.path_same;
       cached = v.cached;

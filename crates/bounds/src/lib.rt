@@ -78,7 +78,7 @@ fn walked(model: Indexed, budget: u64, rows: &mut RowTable) -> Option<Counts>
         task,
         tip,
         a.step_limit,
-        &mut entered,
+        entered,
         &mut path,
         Counts::default(),
         rows,

@@ -21,24 +21,26 @@ pub(crate) struct Task {
 }
 
 // Walks every exit of the tip's state. `left` is the number of steps that the path may still take. It hands back the counts with the steps taken, and
-// keeps all totals in `rows`; the entry counts are set back, and the path up to the tip stays as it is. None says that it stopped where a step more than
-// the budget would be taken, and what it left is of no use then.
-// kept: (a) the path is an array of the longest one with the tip's length beside it, since nothing here is allocated and a slice does not grow.
+// keeps all totals in `rows`; the entry counts go by value and are set back after each call, and the path up to the tip stays as it is. None says that it
+// stopped where a step more than the budget would be taken, and what it left is of no use then.
+// kept: (a) the path is an array of the longest one with the tip's length beside it, since nothing here is allocated and a slice does not grow; document 01
+// names the form of the entry counts.
 pub(crate) fn walk(
     prepared: &Prepared,
     task: Task,
     tip: Tip,
     left: usize,
-    entered: &mut [u8; 1001],
+    entries: [u8; 1001],
     path: &mut [u16; 24],
     counts: Counts,
     rows: &mut RowTable,
 ) -> Option<Counts>
-    requires { Ready (lent_by prepared.now) (asked task tip left entered.old (take tip.len path.old) counts rows.old) }
-    ensures { WalkedBeyond (lent_by prepared.now) (asked task tip left entered.old (take tip.len path.old) counts rows.old) result entered.new (take tip.len path.new) rows.new }
+    requires { Ready (lent_by prepared.now) (asked task tip left entries (take tip.len path.old) counts rows.old) }
+    ensures { WalkedBeyond (lent_by prepared.now) (asked task tip left entries (take tip.len path.old) counts rows.old) result (take tip.len path.new) rows.new }
 {
     let nth = Figure::of_whole(tip.ones + 1);
     let len = tip.len;
+    let mut entered = entries;
     let mut made = counts;
     let mut cache = Cache::empty();
     let leaving = prepared.index.exits(tip.state);

@@ -1,7 +1,7 @@
 -- What a figure that tells is: an operation rounded one way, and whether the other way comes to the same. One law over the direction and the width. Assumes
 -- nothing.
 use Prim.Native.Nat.{ℕ, suc}
-use mathlib.Core.Path.{◌≡◌, sym, ◌∙◌, ap}
+use mathlib.Core.Path.{◌≡◌, refl, sym, ◌∙◌, ap}
 use mathlib.Core.Bool.{Bool, true, false, ◌&&◌}
 use borrow.Author.Rules.{rules}
 use Rattle.fraction.specs.Fraction.{Fraction}
@@ -36,6 +36,14 @@ module _ (w : ℕ) (x : Fraction) where
   same_keeps op is to =
       both_ways (same (op to) (op (opposite to))) (keeps (suc w) x) (λ e. agreed to (sym (is to) ∙ found (op to) (op (opposite to)) e ∙ is (opposite to)))
       (λ e. same_found (op to) (op (opposite to)) (is to ∙ agree to e ∙ sym (is (opposite to))))
+
+  -- A rounding and whether the other way comes to the same are what an operation that tells promises.
+  pub told_by : (to : Direction) {f g : Figure} {r : Rounded} → f ≡ rounded to (suc w) x → g ≡ rounded (opposite to) (suc w) x
+      → r ≡ told f (same f g) → r ≡ told (rounded to (suc w) x) (keeps (suc w) x)
+  told_by to {f} {g} p q t = t ∙ (λ i. told (p i) (mark i))
+    where
+      mark : same f g ≡ keeps (suc w) x
+      mark = rw (p, q) (same_keeps (λ d. rounded d (suc w) x) (λ d. refl) to)
 
 -- the marks of two operands and an operation's own, as the code takes them and as a contract has them
 pub kept_of_both : (a b : Bool) {r : Rounded} {f : Figure} {k m : Bool} → r ≡ told f ((a && b) && k) → k ≡ m → r ≡ told f (a && (b && m))

@@ -4,15 +4,16 @@ ghost use Rattle.word.specs.Words.{scale_field, coefficient_field};
 ghost use Rattle.model.specs.Internal.Parts.{slot_transitions, uneven_by, IsFastSum, IsLowestOf};
 
 use crate::indexed_words::IndexedWords;
-use word::fields::{coefficient, is_fast, scale};
+use word::fields::{is_fast, quantity_at, word_at};
 
-// The probability that the word w says, as a whole number of 10^-12.
+// The probability at the part's first word, as a whole number of 10^-12.
 #[tactic(auto, using(crate::proofs::Units::units_high))]
-fn units(w: u32) -> u64
-    ensures value { result ≡ coefficient_field w * 10 ^ (12 - scale_field w) }
+fn units(part: &[u32]) -> u64
+    ensures value { result ≡ coefficient_field (get_or part.now 0 0) * 10 ^ (12 - scale_field (get_or part.now 0 0)) }
     ensures upper_bound { result ≤ 1048575000000000000 }
 {
-    u64::from(coefficient(w)) * 10u64.pow(12u32.saturating_sub(scale(w)))
+    let q = quantity_at(part);
+    u64::from(q.coefficient) * 10u64.pow(12u32.saturating_sub(q.scale))
 }
 
 impl IndexedWords<'_> {
@@ -24,8 +25,9 @@ impl IndexedWords<'_> {
         let mut sum = None;
         for &j in self.index.exits(s) {
             let at = self.index.place_of(usize::from(j));
-            if is_fast(self.words[at]) {
-                sum = Some(sum.unwrap_or(0) + units(self.words[at + 3]));
+            if is_fast(word_at(&self.words[at..])) {
+                let third = at + 3;
+                sum = Some(sum.unwrap_or(0) + units(&self.words[third..]));
             }
         }
         sum

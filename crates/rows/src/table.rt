@@ -44,7 +44,7 @@ impl Sums {
 // The states that have rows are the first `count` of `states`. A mark is kept as long as nothing was lost that the report's figure rests on.
 // kept: (a) an array and a count, since the library allocates nothing.
 // kept: (d) two marks and no struct of both: each goes with its own figure, and a cut path asks for the upper's alone.
-#[derive(Drop)]
+#[derive(Clone, Copy)]
 pub struct RowTable {
     pub count: usize,
     pub states: [u16; 1000],

@@ -1,14 +1,11 @@
 -- The search for the least number whose cube or square reaches a figure. Assumes nothing.
 use mathlib.Core.Path.{◌≡◌, sym, ◌∙◌, ap}
 use Prim.Native.Nat.{ℕ, suc, suc-le-suc, ◌+◌, ◌*◌, ◌^◌, ◌≤◌, ◌<◌}
-use native.Mathlib.Nat.{lt_of_not-le, le_trans, lt_irrefl, not-le_of_lt, pow-suc, pow-zero, pow-le-pow_left}
+use native.Mathlib.Nat.{le_of_suc-le-suc, le_antisymm, lt_of_not-le, le_trans, lt_irrefl, not-le_of_lt, pow-suc, pow-zero, pow-le-pow_left}
 use native.Mathlib.Decide.{dec_le}
 use native.Mathlib.Omega.{arith}
 use lib.Dec.{T, lit≤, le→leb, leb→le}
 use Rattle.figure.specs.declared.Figure.{Figure}
-use Rattle.std.specs.declared.option.Option.{Option}
-use Rattle.std.specs.declared.option.Option.TheVariants.{None, Some}
-use Rattle.std.specs.Option.{MatchOption, unwrap_or}
 use Rattle.tree.specs.Grains.{reaches, least}
 use Rattle.tree.proofs.Least.{least_found}
 use Rattle.figure.specs.Internal.Ceiling.{Ceiling}
@@ -44,6 +41,13 @@ module _ {e c : ℕ} where
     first = λ i p q. le_trans (suc-le-suc (pow-le-pow_left {n = i} {m = r} (omega arith) e)) (b.below (omega arith));
   }
 
+  pub searched_next : {n : ℕ} → Searched e c n → n < 1000000 → n ^ e < c → Searched e c (n + 1)
+  searched_next {n} s h k = record { low = omega arith; high = omega arith; first = λ i p q. go i p (le_of_suc-le-suc (omega arith)) (dec_le n i) }
+    where
+      go : (i : ℕ) → 1 ≤ i → i ≤ n → Dec (n ≤ i) → i ^ e < c
+      go i p q (yes l) = rw (le_antisymm q l) k
+      go i p q (no l) = s.first i p (lt_of_not-le l)
+
 module _ (power : Power) (g : Figure) (c : ℕ) (ceil : Ceiling g c) (n : ℕ) (s : Searched (exponent power) c n) where
   unreached : (i : ℕ) → 1 ≤ i → i < n → T (reaches (exponent power) g i) → ⊥
   unfolding reaches
@@ -66,22 +70,3 @@ module _ (power : Power) (g : Figure) (c : ℕ) (ceil : Ceiling g c) (n : ℕ) (
     passes = λ _. rw (ceil.same (n ^ exponent power) (small_power power n h)) (le→leb c (n ^ exponent power) k);
     first = unreached;
   })
-
--- what a search over the numbers from n on finds, or that it finds none
-pub first_reached : (power : Power) (g : Figure) (c : ℕ) → Ceiling g c → (n : ℕ) → Searched (exponent power) c n → (r : Option ℕ)
-    → MatchOption r ((k : ℕ) → n ≤ k → k < 1000000 → k ^ exponent power < c)
-    (λ i. (n ≤ i) × (i < 1000000) × (c ≤ i ^ exponent power) × ((k : ℕ) → n ≤ k → k < i → k ^ exponent power < c))
-    → unwrap_or r 1000000 ≡ least (exponent power) g
-first_reached power g c ceil n s None none =
-    searched_all power g c ceil 1000000 (record { low = lit≤ tt; high = lit≤ tt; first = λ i p q. reach i p q (dec_le n i) }) (lit≤ tt)
-  where
-    reach : (i : ℕ) → 1 ≤ i → i < 1000000 → Dec (n ≤ i) → i ^ exponent power < c
-    reach i p q (yes l) = none i l q
-    reach i p q (no l) = s.first i p (lt_of_not-le l)
-first_reached power g c ceil n s (Some i) found =
-    searched_found power g c ceil i (record { low = le_trans s.low found.0; high = omega (arith, found.1); first = λ k p q. reach k p q (dec_le n k) })
-    found.1 found.2
-  where
-    reach : (k : ℕ) → 1 ≤ k → k < i → Dec (n ≤ k) → k ^ exponent power < c
-    reach k p q (yes l) = found.3 k l q
-    reach k p q (no l) = s.first k p (lt_of_not-le l)

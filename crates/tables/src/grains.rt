@@ -46,8 +46,15 @@ pub(crate) fn least(power: Power, g: Figure) -> u64
     ensures upper_bound { result ≤ 1000000 }
 {
     let c = g.ceiling();
-    let start = close_below(power, c) + 1;
-    (start..1_000_000)
-        .find(|n| c <= power.of(*n))
-        .unwrap_or(1_000_000)
+    let mut n = close_below(power, c) + 1;
+    // kept: (a) document 01 names this form: a loop that yields the least n, by break
+    loop {
+        if 1_000_000 <= n {
+            break 1_000_000;
+        }
+        if c <= power.of(n) {
+            break n;
+        }
+        n += 1;
+    }
 }

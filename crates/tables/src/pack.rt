@@ -86,7 +86,7 @@ fn mark(kept: bool) -> u64
 }
 
 // A power above 0.
-fn raised(p: i32) -> u64
+pub fn raised(p: i32) -> u64
     requires { mag p ≤ 100000 }
     ensures { pos result ≡ p +ℤ pos 1048576 }
 {
@@ -94,7 +94,7 @@ fn raised(p: i32) -> u64
 }
 
 // A raised power, set back.
-fn lowered(k: u64) -> i32
+pub fn lowered(k: u64) -> i32
     requires { k < 2097152 }
     ensures { result ≡ pos k -ℤ pos 1048576 }
 {

@@ -23,7 +23,7 @@ pub struct StepEntry {
 }
 
 // One entry for each state and one for each transition.
-#[derive(Drop)]
+#[derive(Clone, Copy)]
 pub struct Table {
     pub states: [StateEntry; 1001],
     pub steps: [StepEntry; 4000],

@@ -2,13 +2,18 @@
 // out.
 #![tactic(auto)]
 
+ghost use Rattle.std.specs.Prelude.{length};
+ghost use Rattle.io.specs.Counts.{IsPrefixLen};
+
 use std::io::Read;
 use text::bytes::BYTES_SIZE;
 
 // Reads until the buffer is full, the input ends or a read fails, and answers what was read.
 // kept: (d) `report` has the same loop, but for what becomes of a read that fails: here the answer goes on with what was read. The crate that both use, `text`,
 // reads nothing, and a crate for one loop of eight lines is no plainer.
-fn read_full<'a, R: Read>(from: &mut R, buffer: &'a mut [u8]) -> &'a [u8] {
+fn read_full<'a, R: Read>(from: &mut R, buffer: &'a mut [u8]) -> &'a [u8]
+    ensures { IsPrefixLen (length result.now) buffer.old }
+{
     let mut len = 0;
     // kept: (d) a read may give any number of bytes; what falls is the room that is left
     while len < buffer.len() {
@@ -22,7 +27,9 @@ fn read_full<'a, R: Read>(from: &mut R, buffer: &'a mut [u8]) -> &'a [u8] {
 }
 
 // Reads the next n bytes, or those that are left, and answers them: none where the buffer has no room for n.
-fn next_bytes<'a, R: Read>(from: &mut R, n: u32, buffer: &'a mut [u8]) -> &'a [u8] {
+fn next_bytes<'a, R: Read>(from: &mut R, n: u32, buffer: &'a mut [u8]) -> &'a [u8]
+    ensures { IsPrefixLen (length result.now) buffer.old }
+{
     let n = n as usize;
     if buffer.len() < n {
         return &buffer[..0];

@@ -26,4 +26,4 @@ walk-requires c =
 pub returns : goal.returns
 returns c =
     walk_tree c.args.model.indexes c.args.model.accepted_is c.figure_of-2.ensures c.of_whole.ensures _ c.requires.allowed
-    (none_counted c.default.result c.default.ensures) _ c.requires.no_totals _ c.walk.result _ _ _ c.walk.ensures
+    (none_counted c.default.result c.default.ensures) _ c.requires.no_totals _ c.walk.result _ _ c.walk.ensures

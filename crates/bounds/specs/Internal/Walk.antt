@@ -99,20 +99,19 @@ NoRoom l a = a.task.budget < a.counts.steps + length (visits_from l a.left (carr
 abbrev pub visits_beyond : Lent → Asked → List Visit
 visits_beyond l a = visits (net_in l) (limits_in l) a.left (path_of (net_in l) a.path)
 
--- what `walk` hands back where it went over them all: counts, and after it the entry counts, the path up to the tip and the table of rows
-pub record WentBeyond (l : Lent) (a : Asked) (c : Counts) (entered path : List ℕ) (rows : RowTable) : Type 0 where
+-- what `walk` hands back where it went over them all: counts, and after it the path up to the tip and the table of rows
+pub record WentBeyond (l : Lent) (a : Asked) (c : Counts) (path : List ℕ) (rows : RowTable) : Type 0 where
   pub ends : Ends l a c rows
   pub counted : KeptCounted c rows
   pub within : c.steps ≤ a.task.budget
   pub names_kept : NamesKept a.rows rows
-  pub set_back : entered ≡ a.entered
   pub path_same : path ≡ a.path
   -- the steps are the count of paths in the cut tree's definition
   pub steps_are : c.steps ≡ a.counts.steps + length (visits_beyond l a)
 
 -- what `walk` hands back: none says that the budget has no room, and then nothing is said of what it left
-abbrev pub WalkedBeyond : Lent → Asked → Option Counts → (entered path : List ℕ) → RowTable → Type 0
-WalkedBeyond l a r entered path rows = MatchOption r (NoRoom l a) (λ c. WentBeyond l a c entered path rows)
+abbrev pub WalkedBeyond : Lent → Asked → Option Counts → List ℕ → RowTable → Type 0
+WalkedBeyond l a r path rows = MatchOption r (NoRoom l a) (λ c. WentBeyond l a c path rows)
 
 -- what the walk from the start hands back where it went over the whole tree, of the table of rows before and after
 pub record WentOver (ws : List ℕ) (budget : ℕ) (c : Counts) (before after : RowTable) : Type 0 where

@@ -1,6 +1,8 @@
 -- `model::indexed_words::IndexedWords::fast_sum` meets its contract: a running sum over the exits. Assumes nothing.
-use Rattle.std.proofs.Common.{◌≡◌, ◌<◌, ◌≤◌, sym, ap, ◌∙◌, arith, ℕ, ◌+◌, ◌∷◌, List, get_or, drop}
+use Rattle.std.proofs.Common.{◌≡◌, ◌<◌, ◌≤◌, sym, ap, ◌∙◌, arith, ℕ, ◌+◌, ◌-◌, ◌*◌, ◌^◌, ◌∷◌, List, get_or, drop}
 use borrow.Author.Tests.{eqb-true, eqb-false}
+use Rattle.word.specs.Words.{kind, coefficient_field, scale_field}
+use Rattle.word.proofs.Parts.{part_word}
 use Rattle.model.specs.Index.{exit_count, place_of, transition_at}
 use Rattle.model.specs.Internal.Parts.{slot_place, slot_transitions}
 use Rattle.model.proofs.Along.{along_turn, along_none}
@@ -19,11 +21,14 @@ loop-j-preserved c =
     let turn : Summed (slot_transitions c.args.self.words.now c.args.self.index.now c.args.s)
     (transition_at (drop c.place_of-at.result c.args.self.words.now) ∷ rest c.args.self.words.now c.args.self.index.now c.args.s (i + 1)) i c.loop-j.sum =
     rw at_is (rw (along_turn _ (exit_count c.args.self.index.now c.args.s) i more) at c.loop-j.invariant) in
+    let word_is = c.word_at.ensures ∙ part_word c.args.self.words.now c.place_of-at.result in
     elim c.if-is_fast.branch [
       | then-is_fast w ↦ rw (w.sum-is, w.unwrap_or.ensures) (summed_fast_word c.args.self.words.now c.place_of-at.result _ _ i c.loop-j.sum turn
-          (eqb-true _ 7 (sym c.is_fast.ensures ∙ w.if-is_fast.true)) w.units.result w.units.ensures.value w.units.ensures.upper_bound)
+          (ap kind (sym word_is) ∙ eqb-true _ 7 (sym c.is_fast.ensures ∙ w.if-is_fast.true)) w.units.result
+          (w.units.ensures.value ∙ ap (λ x. coefficient_field x * 10 ^ (12 - scale_field x)) (part_word c.args.self.words.now (c.place_of-at.result + 3)))
+          w.units.ensures.upper_bound)
       | else-is_fast w ↦ rw w.sum-is (summed_slow_word c.args.self.words.now c.place_of-at.result _ _ i c.loop-j.sum turn
-          (eqb-false _ 7 (sym c.is_fast.ensures ∙ w.if-is_fast.false)))
+          (λ e. eqb-false _ 7 (sym c.is_fast.ensures ∙ w.if-is_fast.false) (ap kind word_is ∙ e)))
     ]
 
 pub returns : goal.returns
