@@ -56,7 +56,8 @@ pub(crate) fn stem_of<A: Arithmetic>(walked: &Walked, spent: Spent<A>) -> Option
 
 // The stem of the death by `exit` after the path that ends at the tip, worked out along the path.
 // kept: (d) the walked path, its tip and the exit apart: this function and `Cache::lower` alone take the three.
-// Built in at its two calls: as a function of its own it cost the tree of 1,000 states a seventh, and that of long deaths a twentieth.
+// Built in at its two calls: as a function of its own it cost the benchmark's tree of 1,000 states a seventh of its time, and that of long paths to deaths a
+// sixteenth.
 #[inline(always)]
 fn new_stem(walked: &Walked, tip: Tip, exit: Exit) -> Option<Stem<Figure>>
     requires { LastStep (lent_by walked.now.prepared.now) walked.now.path.now tip exit }
